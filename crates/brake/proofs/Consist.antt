@@ -1,0 +1,137 @@
+-- Laws of the brake figures.
+-- Assumes nothing.
+use Prim.Native.Nat.{ℕ, _+_, _*_, _/_, _≤_, _<_}
+use mathlib.Core.Bool.{Bool, true, false}
+use mathlib.Core.Logic.{by-cases}
+use mathlib.Core.Path.{_≡_, refl, sym, _∙_, ap, subst}
+use native.Mathlib.Decide.{ℕ-discrete}
+use native.Mathlib.Nat.{mul-le-mul, le-div-iff-mul-le, div-le-self}
+use native.Mathlib.Omega.{arith}
+use lib.Dec.{T, leb, lit≤, lit<}
+use borrow.Author.Tests.{ne-eqb, le-leb, lt-leb, leb-true}
+use Rattle.brake.specs.declared.Figures.{Figures}
+use Rattle.brake.specs.declared.CarFound.{CarFound}
+use Rattle.brake.specs.declared.CarFound.the-variants.{Rated, NoClass}
+use Rattle.brake.specs.declared.FiguresFound.{FiguresFound}
+use Rattle.brake.specs.declared.FiguresFound.the-variants.{Given, NoFigures}
+use Rattle.brake.specs.Consist.{greatestLength, LengthFits, Sound, lengthInRange, carOf, fullBrake, applicationTime, applicationCycles, brakeCycles, figuresWith, figuresBy, figuresOf}
+use Rattle.brake.proofs.Tests.{by-test, both}
+use Rattle.brake.proofs.Rounding.{ceil-le, ceil-positive}
+
+-- ---- length
+
+pub length-fits : (l : ℕ) → lengthInRange l ≡ true → LengthFits l
+unfolding lengthInRange
+length-fits l e = leb-true l greatestLength (both (leb 1 l) (leb l greatestLength) e .1)
+
+pub length-short : (l : ℕ) → l < 1 → lengthInRange l ≡ false
+unfolding lengthInRange
+length-short l h = rw (lt-leb 1 l h, lengthInRange)
+
+pub length-long : (l : ℕ) → 1 ≤ l → lengthInRange l ≡ leb l greatestLength
+unfolding lengthInRange
+length-long l h = rw (le-leb 1 l h, lengthInRange)
+
+-- ---- load class
+
+pub car-loaded : (n : ℕ) → n ≡ 1 → carOf n ≡ Rated 35750 263000
+unfolding carOf
+car-loaded n e = rw e refl
+
+pub car-empty : (n : ℕ) → n ≡ 2 → carOf n ≡ Rated 10575 64000
+unfolding carOf
+car-empty n e = rw e refl
+
+pub car-unknown : (n : ℕ) → n ≡ 3 → carOf n ≡ Rated 23338 263000
+unfolding carOf
+car-unknown n e = rw e refl
+
+pub car-none : (n : ℕ) → (n ≡ 1 → ⊥) → (n ≡ 2 → ⊥) → (n ≡ 3 → ⊥) → carOf n ≡ NoClass
+unfolding carOf
+car-none n a b c = rw (ne-eqb n 1 a, ne-eqb n 2 b, ne-eqb n 3 c, carOf)
+
+-- bounds of a car that some load class has
+pub record Car (force mass : ℕ) : Type 0 where
+  pub force-within : force ≤ 35750
+  pub mass-positive : 1 ≤ mass
+  pub full-least : 87021 ≤ fullBrake force mass
+  pub full-most : fullBrake force mass ≤ 162039
+
+computed : (force mass : ℕ) → T (leb force 35750) → T (leb 1 mass) → T (leb 87021 (fullBrake force mass)) → T (leb (fullBrake force mass) 162039) → Car force mass
+computed force mass a b c d = record { force-within = lit≤ a; mass-positive = lit≤ b; full-least = lit≤ c; full-most = lit≤ d }
+
+abbrev IsCar : CarFound → Type 0
+IsCar (Rated force mass) = Car force mass
+IsCar NoClass = Unit {0}
+
+is-car : (n : ℕ) → IsCar (carOf n)
+unfolding fullBrake
+is-car n =
+    by-cases (ℕ-discrete n 1)
+    (λ e. subst IsCar (sym (car-loaded n e)) (computed 35750 263000 tt tt tt tt))
+    (λ a. by-cases (ℕ-discrete n 2)
+    (λ e. subst IsCar (sym (car-empty n e)) (computed 10575 64000 tt tt tt tt))
+    (λ b. by-cases (ℕ-discrete n 3)
+    (λ e. subst IsCar (sym (car-unknown n e)) (computed 23338 263000 tt tt tt tt))
+    (λ c. subst IsCar (sym (car-none n a b c)) tt)))
+
+pub car-bounds : (n : ℕ) {force mass : ℕ} → carOf n ≡ Rated force mass → Car force mass
+car-bounds n e = subst IsCar e (is-car n)
+
+-- ---- cycles
+
+pub time-most : (l : ℕ) → LengthFits l → applicationTime l ≤ 1961 * 100000000
+unfolding applicationTime
+time-most l h = let m = mul-le-mul h h in omega arith
+
+pub cycles-most : (l : ℕ) → LengthFits l → brakeCycles l ≤ 1961
+unfolding brakeCycles applicationCycles
+cycles-most l h = ceil-le 1961 (lit< tt) (time-most l h)
+
+pub cycles-positive : (l : ℕ) → 1 ≤ brakeCycles l
+unfolding brakeCycles applicationCycles applicationTime
+cycles-positive l = ceil-positive (omega arith) (lit< tt)
+
+-- ---- figures
+
+pub figures-out : (load l : ℕ) → lengthInRange l ≡ false → figuresOf load l ≡ NoFigures
+unfolding figuresOf
+figures-out load l e = rw (e, figuresOf)
+
+figures-in : (load l : ℕ) → lengthInRange l ≡ true → figuresOf load l ≡ figuresBy (carOf load) l
+unfolding figuresOf
+figures-in load l e = rw (e, figuresOf)
+
+pub figures-none : (load l : ℕ) → carOf load ≡ NoClass → figuresOf load l ≡ NoFigures
+unfolding figuresBy
+figures-none load l e =
+    by-test (lengthInRange l)
+    (λ t. figures-in load l t ∙ ap (λ (f : CarFound). figuresBy f l) e)
+    (λ t. figures-out load l t)
+
+pub figures-given : (load l : ℕ) {force mass : ℕ} → lengthInRange l ≡ true → carOf load ≡ Rated force mass → figuresOf load l ≡ Given (figuresWith force mass l)
+unfolding figuresBy
+figures-given load l t e = figures-in load l t ∙ ap (λ (f : CarFound). figuresBy f l) e
+
+sound-with : (force mass l : ℕ) → Car force mass → LengthFits l → Sound (figuresWith force mass l)
+unfolding figuresWith
+sound-with force mass l car h =
+    let most = cycles-most l h in
+    let positive = cycles-positive l in
+    record {
+      growth-positive = le-div-iff-mul-le positive .1 (omega (arith, car .full-least));
+      growth-within = div-le-self _ _;
+      full-within = car .full-most;
+    }
+
+sound-by : (f : CarFound) (l : ℕ) (k : Figures) → IsCar f → LengthFits l → figuresBy f l ≡ Given k → Sound k
+unfolding figuresBy
+sound-by NoClass l k car h e = let z : _≡_ {A = ℕ} 0 1 = cc in absurd (omega arith)
+sound-by (Rated force mass) l k car h e = let q : figuresWith force mass l ≡ k = cc in subst Sound q (sound-with force mass l car h)
+
+-- whatever figures a consist is given, they are sound: 1 ≤ j ≤ B, and B within its greatest
+pub given-sound : (load l : ℕ) (k : Figures) → figuresOf load l ≡ Given k → Sound k
+given-sound load l k e =
+    by-test (lengthInRange l)
+    (λ t. sound-by (carOf load) l k (is-car load) (length-fits l t) (sym (figures-in load l t) ∙ e))
+    (λ t. let z : _≡_ {A = ℕ} 0 1 = cc (figures-out load l t) in absurd (omega arith))

@@ -1,0 +1,22 @@
+-- `brake::brake_cycles` meets its contract.
+-- Assumes nothing.
+use native.Mathlib.Omega.{arith}
+use borrow.Author.Needs.{needs}
+use Rattle.brake.specs.Rounding.{ceilDiv}
+use Rattle.brake.specs.Consist.{applicationCycles, brakeCycles}
+use Rattle.brake.proofs.Consist.{time-most}
+use Rattle.brake.proofs.brake_cycles.Statement.{statement}
+use Rattle.brake.proofs.brake_cycles.Tie as tie
+
+application-time-requires : tie.Need-application-time-requires
+application-time-requires c κs = search needs
+
+add-result : tie.Need-add-result
+add-result c = omega (arith, c .application-time .ensures, time-most _ (c .before .pre))
+
+returns : tie.Need-returns
+unfolding brakeCycles applicationCycles ceilDiv
+returns c = rw (c .application-time .ensures)
+
+pub brake-cycles-spec : {M : Type 1} → statement M
+brake-cycles-spec = tie.close (tie.spec application-time-requires add-result returns)

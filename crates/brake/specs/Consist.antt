@@ -1,0 +1,76 @@
+-- Document 01, "Line and consist": the brake figures of a consist, from its load class and its length in feet.
+use Prim.Native.Nat.{ℕ, _+_, _*_, _/_, _≤_}
+use mathlib.Core.Bool.{Bool, true, false, _&&_}
+use lib.Dec.{leb, eqb}
+use Rattle.brake.specs.declared.Figures.{Figures}
+use Rattle.brake.specs.declared.CarFound.{CarFound}
+use Rattle.brake.specs.declared.CarFound.the-variants.{Rated, NoClass}
+use Rattle.brake.specs.declared.FiguresFound.{FiguresFound}
+use Rattle.brake.specs.declared.FiguresFound.the-variants.{Given, NoFigures}
+use Rattle.brake.specs.Rounding.{ceilDiv}
+
+-- length: 1 to 10,000 ft
+abbrev pub greatestLength : ℕ
+greatestLength = 10000
+
+unfoldable pub lengthInRange : ℕ → Bool
+lengthInRange l = leb 1 l && leb l greatestLength
+
+-- the load class alone decides force (lbf) and mass (lb) per car: 1 loaded, 2 empty, 3 unknown
+unfoldable pub carOf : ℕ → CarFound
+carOf load =
+    elim (eqb load 1) [
+      | true ↦ Rated 35750 263000
+      | false ↦ elim (eqb load 2) [
+        | true ↦ Rated 10575 64000
+        | false ↦ elim (eqb load 3) [
+          | true ↦ Rated 23338 263000
+          | false ↦ NoClass
+        ]
+      ]
+    ]
+
+-- full brake B, with standard gravity
+unfoldable pub fullBrake : ℕ → ℕ → ℕ
+fullBrake force mass = force * 980665 / mass
+
+-- application time in nanoseconds
+unfoldable pub applicationTime : ℕ → ℕ
+applicationTime l = 12220000000 + 15600000 * l + 278 * (l * l)
+
+-- cycles, by the formula
+unfoldable pub applicationCycles : ℕ → ℕ
+applicationCycles l = ceilDiv (applicationTime l) 100000000
+
+-- cycles that an entering train's growth is worked out with. A name of its own: the brake shop may come to read them off
+-- a sheet, and the formula stays.
+unfoldable pub brakeCycles : ℕ → ℕ
+brakeCycles l = applicationCycles l
+
+-- full brake B and growth j of a car and a length
+unfoldable pub figuresWith : ℕ → ℕ → ℕ → Figures
+figuresWith force mass l = record { full = fullBrake force mass; growth = fullBrake force mass / brakeCycles l }
+
+unfoldable pub figuresBy : CarFound → ℕ → FiguresFound
+figuresBy NoClass l = NoFigures
+figuresBy (Rated force mass) l = Given (figuresWith force mass l)
+
+-- the figures of a consist, or none where its length or its load class is out of range (answer 4)
+unfoldable pub figuresOf : ℕ → ℕ → FiguresFound
+figuresOf load l = elim (lengthInRange l) [ true ↦ figuresBy (carOf load) l | false ↦ NoFigures ]
+
+-- the answer number that this alone decides
+abbrev pub answerTo : FiguresFound → ℕ
+answerTo (Given k) = 0
+answerTo NoFigures = 4
+
+-- What the code may take for granted of a length that passed the test above, and of figures that `figuresOf` gave
+-- (proofs/Consist: given-sound). Document 01 has no such words: they stand in `requires` clauses, so that no sum overflows
+-- and no quotient is by 0.
+abbrev pub LengthFits : ℕ → Type 0
+LengthFits l = l ≤ greatestLength
+
+pub record Sound (k : Figures) : Type 0 where
+  pub growth-positive : 1 ≤ k .growth
+  pub growth-within : k .growth ≤ k .full
+  pub full-within : k .full ≤ 162039

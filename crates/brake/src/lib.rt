@@ -1,0 +1,78 @@
+// The brake figures of a consist: document 01, "Line and consist".
+ghost use mathlib.Core.Path.{_≡_};
+ghost use Rattle.brake.specs.Consist.{LengthFits, lengthInRange, carOf, applicationTime, brakeCycles, figuresOf};
+
+// Full brake B and growth j: the speed that one cycle takes off, and what the next cycle takes off on top, in µm/s.
+pub struct Figures {
+    pub full: u64,
+    pub growth: u64,
+}
+
+// What a load class says of each car: brake force in lbf and mass in lb.
+pub enum CarFound {
+    Rated(u64, u64),
+    NoClass,
+}
+
+pub enum FiguresFound {
+    Given(Figures),
+    NoFigures,
+}
+
+// Length: 1 to 10,000 ft.
+pub fn length_in_range(length: u64) -> bool
+    ensures { λ r. ⌜ r ≡ lengthInRange length ⌝ }
+{
+    if length < 1 {
+        return false;
+    }
+    length <= 10000
+}
+
+// The load class alone decides force and mass. A car of unknown load is taken as loaded.
+pub fn car_of(load: u64) -> CarFound
+    ensures { λ r. ⌜ r ≡ carOf load ⌝ }
+{
+    match load {
+        1 => CarFound::Rated(35750, 263000),
+        2 => CarFound::Rated(10575, 64000),
+        3 => CarFound::Rated(23338, 263000),
+        _ => CarFound::NoClass,
+    }
+}
+
+// Application time in nanoseconds of a length in feet.
+fn application_time(length: u64) -> u64
+    requires { ⌜ LengthFits length ⌝ }
+    ensures { λ r. ⌜ r ≡ applicationTime length ⌝ }
+{
+    12220000000 + 15600000 * length + 278 * (length * length)
+}
+
+// Cycles until the brake is full, rounded up: a cycle of 100 ms that the brake still grows in counts whole.
+fn brake_cycles(length: u64) -> u64
+    requires { ⌜ LengthFits length ⌝ }
+    ensures { λ r. ⌜ r ≡ brakeCycles length ⌝ }
+{
+    (application_time(length) + 99999999) / 100000000
+}
+
+// The figures that a train enters with, or none for a load class or a length out of range (answer 4).
+pub fn figures_of(load: u64, length: u64) -> FiguresFound
+    ensures { λ r. ⌜ r ≡ figuresOf load length ⌝ }
+{
+    if !length_in_range(length) {
+        return FiguresFound::NoFigures;
+    }
+    match car_of(load) {
+        CarFound::Rated(force, mass) => {
+            let full = force * 980665 / mass;
+            let cycles = brake_cycles(length);
+            FiguresFound::Given(Figures {
+                full: full,
+                growth: full / cycles,
+            })
+        }
+        CarFound::NoClass => FiguresFound::NoFigures,
+    }
+}

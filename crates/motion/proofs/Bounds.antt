@@ -1,0 +1,80 @@
+-- Bounds that braking and driving keep, and the sums that fit by them.
+-- Assumes nothing.
+use Prim.Native.Nat.{ℕ, _+_, _*_, _≤_}
+use native.Mathlib.Nat.{mul-le-mul, le-trans}
+use native.Mathlib.Omega.{arith}
+use lib.Dec.{lit≤}
+use Rattle.brake.specs.declared.Figures.{Figures}
+use Rattle.brake.specs.Consist.{Sound}
+use Rattle.motion.specs.declared.Motion.{Motion}
+use Rattle.motion.specs.declared.Order.{Order}
+use Rattle.motion.specs.declared.Order.the-variants.{Drive, Brake}
+use Rattle.motion.specs.Motion.{brakeTravel, brakeSpeed, nextLevel, driveTravel, driveSpeed, enoughCycles, stoppingDistance}
+use Rattle.motion.specs.Orders.{worstCase}
+use Rattle.motion.specs.Bounds.{greatestLineEnd, greatestCeiling, greatestTraction, Braking, Driving, Bounded, CapWithin}
+use Rattle.motion.proofs.Cycles.{travel-le, speed-le, level-le}
+use Rattle.motion.proofs.Runs.{stop-le}
+
+-- braking keeps what braking takes for granted
+pub braking-on : (k : Figures) (v b : ℕ) → Braking k v b → Braking k (brakeSpeed k v b) (nextLevel k b)
+braking-on k v b h =
+    let slower = speed-le k v b in
+    record { figures = h .figures; speed = omega (arith, h .speed); level = level-le k b }
+
+-- no stopping distance is longer
+abbrev pub longestStop : ℕ
+longestStop = 40100001 * 40100002
+
+pub stop-fits : (k : Figures) (v b : ℕ) → Braking k v b → stoppingDistance k v b ≤ longestStop
+unfolding enoughCycles
+stop-fits k v b h =
+    let few : enoughCycles k v b ≤ 40100001 = omega (arith, h .speed) in
+    le-trans (stop-le k v b (h .figures)) (mul-le-mul {m₂ = 40100002} few (omega arith))
+
+-- ---- a bounded train under an order
+
+pub braking : {k : Figures} {m : Motion} → Bounded k m → Braking k (m .speed) (m .level)
+braking h = record { figures = h .figures; speed = omega (arith, h .speed); level = h .level }
+
+pub driving : {k : Figures} {m : Motion} {c : ℕ} → Bounded k m → c ≤ greatestTraction → Driving k (m .speed) c
+driving h c = record { figures = h .figures; speed = h .speed; cap = c }
+
+-- a cycle takes the head no further
+abbrev pub longestCycle : ℕ
+longestCycle = 2 * greatestCeiling + greatestTraction
+
+pub drive-travel-fits : (k : Figures) (v c : ℕ) → Driving k v c → driveTravel k v c ≤ longestCycle
+unfolding driveTravel
+drive-travel-fits k v c h = omega (arith, h .speed, h .cap)
+
+pub brake-travel-fits : (k : Figures) (m : Motion) → Bounded k m → brakeTravel k (m .speed) (m .level) ≤ longestCycle
+brake-travel-fits k m h = let t = travel-le k (m .speed) (m .level) in omega (arith, h .speed)
+
+-- the worst case of its order
+pub worst-head : (k : Figures) (m : Motion) (o : Order) → Bounded k m → CapWithin greatestTraction o → worstCase k m o .head ≤ greatestLineEnd + longestCycle
+worst-head k m (Drive c) h w = let t = drive-travel-fits k (m .speed) c (driving h w) in omega (arith, h .head)
+worst-head k m Brake h w = let t = brake-travel-fits k m h in omega (arith, h .head)
+
+pub worst-braking : (k : Figures) (m : Motion) (o : Order) → Bounded k m → CapWithin greatestTraction o → Braking k (worstCase k m o .speed) (worstCase k m o .level)
+unfolding driveSpeed
+worst-braking k m (Drive c) h w = record { figures = h .figures; speed = omega (arith, h .speed); level = omega arith }
+worst-braking k m Brake h w = braking-on k (m .speed) (m .level) (braking h)
+
+-- ---- the speed bound
+
+-- The speed that no train exceeds at a level of its brake, on a line with this ceiling. Flat track never adds speed to a
+-- braked train, so the level does not matter.
+unfoldable pub speedBound : Figures → ℕ → ℕ → ℕ
+speedBound k ceiling level = ceiling
+
+pub bound-ceiling : (k : Figures) (ceiling level v : ℕ) → v ≤ ceiling → v ≤ speedBound k ceiling level
+unfolding speedBound
+bound-ceiling k ceiling level v h = h
+
+pub bound-brake : (k : Figures) (ceiling level v : ℕ) → v ≤ speedBound k ceiling level → brakeSpeed k v level ≤ speedBound k ceiling (nextLevel k level)
+unfolding speedBound
+bound-brake k ceiling level v h = le-trans (speed-le k v level) h
+
+pub bound-fits : (k : Figures) (ceiling level v : ℕ) → ceiling ≤ greatestCeiling → v ≤ speedBound k ceiling level → v ≤ greatestCeiling
+unfolding speedBound
+bound-fits k ceiling level v h b = le-trans b h

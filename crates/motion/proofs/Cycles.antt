@@ -1,0 +1,84 @@
+-- Laws of one cycle.
+-- Assumes nothing.
+use Prim.Native.Nat.{ℕ, _+_, _-_, _*_, _≤_, _<_}
+use mathlib.Core.Bool.{Bool, true, false}
+use mathlib.Core.Logic.{by-cases}
+use mathlib.Core.Path.{_≡_, sym, _∙_}
+use native.Mathlib.Decide.{decLe}
+use native.Mathlib.Nat.{mul-le-mul, mul-le-mul-left, le-trans}
+use native.Mathlib.Omega.{arith}
+use lib.Dec.{leb, eqb}
+use borrow.Author.Tests.{le-leb, lt-leb, eqb-true, eq-eqb}
+use Rattle.brake.specs.declared.Figures.{Figures}
+use Rattle.brake.specs.Rounding.{ceilDiv}
+use Rattle.brake.proofs.Rounding.{ceil-le, ceil-mono}
+use Rattle.motion.specs.Motion.{brakeTravel, brakeSpeed, nextLevel, driveTravel, driveSpeed, stands}
+
+-- ---- a braked cycle
+
+pub travel-on : (k : Figures) (v b : ℕ) → b ≤ v → brakeTravel k v b ≡ 2 * v - b
+unfolding brakeTravel
+travel-on k v b h = rw (le-leb b v h, brakeTravel)
+
+pub travel-last : (k : Figures) (v b : ℕ) → v < b → brakeTravel k v b ≡ ceilDiv (v * v) b
+unfolding brakeTravel
+travel-last k v b h = rw (lt-leb b v h, brakeTravel)
+
+travel-last-le : (k : Figures) (v b : ℕ) → v < b → brakeTravel k v b ≤ v
+travel-last-le k v b h = rw (travel-last k v b h) (ceil-le v (omega arith) (mul-le-mul-left v (omega arith)))
+
+pub travel-le : (k : Figures) (v b : ℕ) → brakeTravel k v b ≤ 2 * v
+travel-le k v b =
+    by-cases (decLe b v)
+    (λ on. rw (travel-on k v b on) (omega arith))
+    (λ last. le-trans (travel-last-le k v b (omega arith)) (omega arith))
+
+pub travel-mono : (k : Figures) {v v′ : ℕ} (b : ℕ) → v ≤ v′ → brakeTravel k v b ≤ brakeTravel k v′ b
+travel-mono k {v} {v′} b h =
+    by-cases (decLe b v)
+    (λ on. rw (travel-on k v b on, travel-on k v′ b (le-trans on h)) (omega arith))
+    (λ last. by-cases (decLe b v′)
+    (λ on. rw (travel-on k v′ b on) (le-trans (travel-last-le k v b (omega arith)) (omega arith)))
+    (λ last′. rw (travel-last k v b (omega arith), travel-last k v′ b (omega arith)) (ceil-mono (omega arith) (mul-le-mul h h))))
+
+pub speed-mono : (k : Figures) {v v′ : ℕ} (b : ℕ) → v ≤ v′ → brakeSpeed k v b ≤ brakeSpeed k v′ b
+unfolding brakeSpeed
+speed-mono k b h = omega arith
+
+pub speed-le : (k : Figures) (v b : ℕ) → brakeSpeed k v b ≤ v
+unfolding brakeSpeed
+speed-le k v b = omega arith
+
+pub level-le : (k : Figures) (b : ℕ) → nextLevel k b ≤ k .full
+unfolding nextLevel
+level-le k b = omega arith
+
+-- ---- a driven cycle
+
+pub drive-travel-mono : (k : Figures) {v v′ c c′ : ℕ} → v ≤ v′ → c ≤ c′ → driveTravel k v c ≤ driveTravel k v′ c′
+unfolding driveTravel
+drive-travel-mono k h g = omega arith
+
+pub drive-speed-mono : (k : Figures) {v v′ c c′ : ℕ} → v ≤ v′ → c ≤ c′ → driveSpeed k v c ≤ driveSpeed k v′ c′
+unfolding driveSpeed
+drive-speed-mono k h g = omega arith
+
+-- ---- standing
+
+-- whoever is no faster than a standing train stands
+pub stands-mono : (k : Figures) {v v′ : ℕ} (b : ℕ) → v ≤ v′ → stands k v′ b ≡ true → stands k v b ≡ true
+unfolding stands
+stands-mono k {v} {v′} b h e = let z = eqb-true v′ 0 e in eq-eqb v 0 (omega arith)
+
+-- a braked cycle does not move a standing train
+pub travel-stands : (k : Figures) (v b : ℕ) → stands k v b ≡ true → brakeTravel k v b ≡ 0
+unfolding stands
+travel-stands k v b e =
+    let z = eqb-true v 0 e in
+    let t = travel-le k v b in
+    omega arith
+
+-- and leaves it standing
+pub stays : (k : Figures) (v b : ℕ) → stands k v b ≡ true → stands k (brakeSpeed k v b) (nextLevel k b) ≡ true
+unfolding stands brakeSpeed
+stays k v b e = let z = eqb-true v 0 e in eq-eqb (v - b) 0 (omega arith)

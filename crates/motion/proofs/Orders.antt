@@ -1,0 +1,115 @@
+-- Laws of orders: the cap that fits, and what an accepted report keeps.
+-- Assumes nothing.
+use Prim.Native.Nat.{ℕ, _+_, _≤_, _<_}
+use mathlib.Core.Bool.{Bool, true, false, _&&_}
+use mathlib.Core.Logic.{_⊎_, inl, inr}
+use mathlib.Core.Path.{_≡_, refl, sym, _∙_, ap, subst}
+use native.Mathlib.Nat.{le-trans, le-refl}
+use native.Mathlib.Omega.{arith}
+use lib.Dec.{leb}
+use borrow.Author.Tests.{le-leb, lt-leb, leb-true}
+use Rattle.brake.specs.declared.Figures.{Figures}
+use Rattle.brake.specs.Consist.{Sound}
+use Rattle.brake.proofs.Tests.{by-test, both}
+use Rattle.motion.specs.declared.Motion.{Motion}
+use Rattle.motion.specs.declared.Limits.{Limits}
+use Rattle.motion.specs.declared.Order.{Order}
+use Rattle.motion.specs.declared.Order.the-variants.{Drive, Brake}
+use Rattle.motion.specs.Motion.{driveSpeed, releasedLevel}
+use Rattle.motion.specs.Orders.{worstCase, reach, capFits, orderFor}
+use Rattle.motion.specs.Bounds.{greatestLineEnd, greatestCeiling, Bounded, CapWithin}
+use Rattle.motion.proofs.Cycles.{level-le}
+use Rattle.motion.proofs.Bounds.{speedBound, bound-ceiling, bound-brake, bound-fits}
+use Rattle.motion.proofs.Domination.{NoWorse, no-worse-drive, no-worse-stop, brake-keeps}
+use Rattle.motion.proofs.Greatest.{IsGreatest, Chosen, greatest-chosen}
+
+-- ---- the cap that fits
+
+module _ (k : Figures) (l : Limits) (goal : ℕ) (m : Motion) where
+  pub fits-keeps : (c : ℕ) → capFits k l goal m c ≡ true → (driveSpeed k (m .speed) c ≤ l .ceiling) × (reach k m (Drive c) ≤ goal)
+  unfolding capFits
+  fits-keeps c e =
+      let passed = both (leb (driveSpeed k (m .speed) c) (l .ceiling)) (leb (reach k m (Drive c)) goal) e in
+      (leb-true _ _ (passed .0), leb-true _ _ (passed .1))
+
+  pub fits-over : (c : ℕ) → l .ceiling < driveSpeed k (m .speed) c → capFits k l goal m c ≡ false
+  unfolding capFits
+  fits-over c h = rw (lt-leb (driveSpeed k (m .speed) c) (l .ceiling) h)
+
+  pub fits-under : (c : ℕ) → driveSpeed k (m .speed) c ≤ l .ceiling → capFits k l goal m c ≡ leb (reach k m (Drive c)) goal
+  unfolding capFits
+  fits-under c h = rw (le-leb (driveSpeed k (m .speed) c) (l .ceiling) h)
+
+  -- below a cap that fits every cap fits
+  pub fits-below : (c d : ℕ) → Sound k → c ≤ d → capFits k l goal m d ≡ true → capFits k l goal m c ≡ true
+  fits-below c d s h e =
+      let kept = fits-keeps d e in
+      let same : NoWorse m m = record { head = le-refl _; speed = le-refl _; level = refl } in
+      let less = no-worse-drive k m m same h in
+      let stop = no-worse-stop k _ _ s less in
+      fits-under c (le-trans (less .speed) (kept .0)) ∙ le-leb _ _ (le-trans stop (kept .1))
+
+-- ---- an accepted report
+
+-- what a report may order: brake, or what the rule gives against the goal
+abbrev pub MayOrder : Figures → Limits → ℕ → Motion → Order → Type 0
+MayOrder k l goal m o = (o ≡ Brake) ⊎ (o ≡ orderFor k l goal m)
+
+-- a cap so ordered fits, and is the greatest from 0 to A that does
+pub ordered-cap : (k : Figures) (l : Limits) (goal : ℕ) (m : Motion) (c : ℕ) → MayOrder k l goal m (Drive c) → IsGreatest (capFits k l goal m) (l .traction) c
+unfolding orderFor
+ordered-cap k l goal m c (inl e) = let z : _≡_ {A = ℕ} 0 1 = cc in absurd (omega arith)
+ordered-cap k l goal m c (inr e) = subst (Chosen (capFits k l goal m) (l .traction)) (sym e) (greatest-chosen (capFits k l goal m) (l .traction))
+
+-- no worse than the worst case of the last order, whose reach kept the end: the new order keeps it too
+pub order-keeps : (k : Figures) (l : Limits) (m : Motion) (o : Order) (m′ : Motion) (o′ : Order) (goal end : ℕ) → Sound k
+    → NoWorse m′ (worstCase k m o) → reach k m o ≤ end → goal ≤ end → MayOrder k l goal m′ o′ → reach k m′ o′ ≤ end
+order-keeps k l m o m′ (Drive c) goal end s h r g order =
+    le-trans (fits-keeps k l goal m′ c (ordered-cap k l goal m′ c order .itself) .1) g
+order-keeps k l m o m′ Brake goal end s h r g order = le-trans (brake-keeps k m o m′ s h) r
+
+-- ---- bounds that reports keep
+
+-- what a line's settings bound in a train and its order
+pub record Within (k : Figures) (l : Limits) (m : Motion) (o : Order) : Type 0 where
+  pub speed : m .speed ≤ speedBound k (l .ceiling) (m .level)
+  pub level : m .level ≤ k .full
+  pub worst : worstCase k m o .speed ≤ speedBound k (l .ceiling) (worstCase k m o .level)
+  pub cap : CapWithin (l .traction) o
+
+-- an entering train, standing under full brake
+pub within-entering : (k : Figures) (l : Limits) (m : Motion) → m .speed ≡ 0 → m .level ≡ k .full → Within k l m Brake
+within-entering k l m still full =
+    let slow : m .speed ≤ speedBound k (l .ceiling) (m .level) = bound-ceiling k (l .ceiling) (m .level) (m .speed) (omega arith) in
+    record { speed = slow; level = omega arith; worst = bound-brake k (l .ceiling) (m .level) (m .speed) slow; cap = tt }
+
+-- a report no worse than the worst case, and the order that it gets
+level-kept : (k : Figures) (m : Motion) (o : Order) → worstCase k m o .level ≤ k .full
+level-kept k m (Drive c) = omega arith
+level-kept k m Brake = level-le k (m .level)
+
+pub within-report : (k : Figures) (l : Limits) (m : Motion) (o : Order) (m′ : Motion) (o′ : Order) (goal : ℕ)
+    → Within k l m o → NoWorse m′ (worstCase k m o) → MayOrder k l goal m′ o′ → Within k l m′ o′
+within-report k l m o m′ o′ goal w h order =
+    let slow : m′ .speed ≤ speedBound k (l .ceiling) (m′ .level) =
+    rw (h .level) (le-trans (h .speed) (w .worst)) in
+    record {
+      speed = slow;
+      level = rw (h .level) (level-kept k m o);
+      worst = worst-kept o′ slow order;
+      cap = cap-kept o′ order;
+    }
+  where
+    worst-kept : (o′ : Order) → m′ .speed ≤ speedBound k (l .ceiling) (m′ .level) → MayOrder k l goal m′ o′
+        → worstCase k m′ o′ .speed ≤ speedBound k (l .ceiling) (worstCase k m′ o′ .level)
+    worst-kept (Drive c) slow order = bound-ceiling k (l .ceiling) releasedLevel _ (fits-keeps k l goal m′ c (ordered-cap k l goal m′ c order .itself) .0)
+    worst-kept Brake slow order = bound-brake k (l .ceiling) (m′ .level) (m′ .speed) slow
+
+    cap-kept : (o′ : Order) → MayOrder k l goal m′ o′ → CapWithin (l .traction) o′
+    cap-kept (Drive c) order = ordered-cap k l goal m′ c order .within
+    cap-kept Brake order = tt
+
+-- so every sum of a train's calls fits
+pub within-bounded : (k : Figures) (l : Limits) (m : Motion) (o : Order) → Sound k → l .ceiling ≤ greatestCeiling → m .head ≤ greatestLineEnd → Within k l m o → Bounded k m
+within-bounded k l m o s v h w =
+    record { figures = s; head = h; speed = bound-fits k (l .ceiling) (m .level) (m .speed) v (w .speed); level = w .level }

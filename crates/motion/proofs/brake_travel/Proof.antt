@@ -1,0 +1,53 @@
+-- `motion::brake_travel` meets its contract.
+-- Assumes nothing.
+use Prim.Native.Nat.{ℕ, _*_, _≤_, _<_}
+use mathlib.Core.Path.{sym}
+use native.Mathlib.Nat.{mul-le-mul}
+use native.Mathlib.Omega.{arith}
+use borrow.Author.Needs.{needs}
+use Rattle.brake.specs.Rounding.{ceilDiv}
+use Rattle.motion.proofs.Cycles.{travel-on, travel-last}
+use Rattle.motion.proofs.brake_travel.Statement.{statement}
+use Rattle.motion.proofs.brake_travel.Tie as tie
+
+-- only a speed below the level is squared
+square : (v b : ℕ) → v < b → b ≤ 162039 → v * v ≤ 162039 * 162039
+square v b below within = let h : v ≤ 162039 = omega arith in mul-le-mul h h
+
+mul-result : tie.Need-mul-result
+mul-result c = search needs
+
+sub-result : tie.Need-sub-result
+sub-result c = search needs
+
+returns : tie.Need-returns
+returns c = sym (travel-on _ _ _ (c .if1 .taken))
+
+mul-result-2 : tie.Need-mul-result-2
+mul-result-2 c = omega (arith, square _ _ (c .if1 .left) (omega arith))
+
+sub-result-2 : tie.Need-sub-result-2
+sub-result-2 c = search needs
+
+add-result : tie.Need-add-result
+add-result c = omega (arith, square _ _ (c .if1 .left) (omega arith))
+
+div-result : tie.Need-div-result
+div-result c = search needs
+
+returns-2 : tie.Need-returns-2
+unfolding ceilDiv
+returns-2 c = sym (travel-last _ _ _ (c .if1 .left))
+
+pub brake-travel-spec : {M : Type 1} → statement M
+brake-travel-spec =
+    tie.close
+    (tie.spec
+    mul-result
+    sub-result
+    returns
+    mul-result-2
+    sub-result-2
+    add-result
+    div-result
+    returns-2)

@@ -1,0 +1,35 @@
+-- `motion::reach_of` meets its contract.
+-- Assumes nothing.
+use native.Mathlib.Omega.{arith}
+use borrow.Author.Needs.{needs}
+use Rattle.motion.specs.Orders.{worstCase, stoppingPlace}
+use Rattle.motion.specs.Bounds.{Braking}
+use Rattle.motion.proofs.Bounds.{worst-head, worst-braking, stop-fits}
+use Rattle.motion.proofs.reach_of.Statement.{statement}
+use Rattle.motion.proofs.reach_of.Tie as tie
+
+worst-case-requires : tie.Need-worst-case-requires
+worst-case-requires c κs = search needs
+
+-- the worst case brakes within bounds
+worst : (c : tie.Start) → let a = c .args in Braking (a .k) (worstCase (a .k) (a .m) (a .o) .speed) (worstCase (a .k) (a .m) (a .o) .level)
+worst c = worst-braking (c .args .k) (c .args .m) (c .args .o) (c .pre .0) (c .pre .1)
+
+stopping-distance-requires : tie.Need-stopping-distance-requires
+stopping-distance-requires c κs = rw (c .worst-case .ensures) (worst (c .before))
+
+add-result : tie.Need-add-result
+add-result c =
+    let start = c .before .before in
+    let a = start .args in
+    let head = worst-head (a .k) (a .m) (a .o) (start .pre .0) (start .pre .1) in
+    let stop = stop-fits _ _ _ (worst start) in
+    rw (c .stopping-distance .ensures, c .before .worst-case .ensures) (omega arith)
+
+returns : tie.Need-returns
+unfolding stoppingPlace
+returns c = rw (c .stopping-distance .ensures, c .before .worst-case .ensures)
+
+pub reach-of-spec : {M : Type 1} → statement M
+reach-of-spec =
+    tie.close (tie.spec worst-case-requires stopping-distance-requires add-result returns)

@@ -1,0 +1,69 @@
+-- `motion::worst_case` meets its contract.
+-- Assumes nothing.
+use Prim.Native.Nat.{ℕ, _≤_}
+use mathlib.Core.Path.{_≡_, sym, subst}
+use native.Mathlib.Omega.{arith}
+use borrow.Author.Needs.{needs}
+use Rattle.motion.specs.Orders.{worstCase}
+use Rattle.motion.specs.Bounds.{greatestTraction, Driving, CapWithin}
+use Rattle.motion.proofs.Bounds.{driving, drive-travel-fits, brake-travel-fits}
+use Rattle.motion.proofs.worst_case.Statement.{statement}
+use Rattle.motion.proofs.worst_case.Tie as tie
+
+enum-known-o : tie.Need-enum-known-o
+enum-known-o c = search needs
+
+-- the order drives, with a cap that fits
+abbrev S : tie.After-known-told → tie.Start
+S c = c .before .before .before
+
+driven : (c : tie.After-known-told) → Driving (S c .args .k) (S c .args .m .speed) (c .before .o .given .0 .0)
+driven c = driving (S c .pre .0) (subst (CapWithin greatestTraction) (c .before .o .given .1) (S c .pre .1))
+
+drive-travel-requires : tie.Need-drive-travel-requires
+drive-travel-requires c κs = driven c
+
+add-t10 : tie.Need-add-t10
+add-t10 c = omega (arith, c .drive-travel .ensures, drive-travel-fits _ _ _ (driven (c .before)), S (c .before) .pre .0 .head)
+
+drive-speed-requires : tie.Need-drive-speed-requires
+drive-speed-requires c κs = driven (c .before)
+
+enum-told : tie.Need-enum-told
+enum-told c = search needs
+
+brake-travel-requires : tie.Need-brake-travel-requires
+brake-travel-requires c κs = search needs
+
+add-t13 : tie.Need-add-t13
+add-t13 c = let start = c .before .before .before in omega (arith, c .brake-travel .ensures, brake-travel-fits _ _ (start .pre .0), start .pre .0 .head)
+
+brake-speed-requires : tie.Need-brake-speed-requires
+brake-speed-requires c κs = search needs
+
+next-level-requires : tie.Need-next-level-requires
+next-level-requires c κs = search needs
+
+returns : tie.Need-returns
+returns c =
+    rw (c .drive-speed .ensures, c .before .drive-travel .ensures, c .before .before .before .o .given .1)
+
+returns-2 : tie.Need-returns-2
+returns-2 c =
+    rw (c .next-level .ensures, c .before .brake-speed .ensures, c .before .before .brake-travel .ensures, c .before .before .before .enum-told .given .1)
+
+pub worst-case-spec : {M : Type 1} → statement M
+worst-case-spec =
+    tie.close
+    (tie.spec
+    enum-known-o
+    drive-travel-requires
+    add-t10
+    drive-speed-requires
+    enum-told
+    brake-travel-requires
+    add-t13
+    brake-speed-requires
+    next-level-requires
+    returns
+    returns-2)

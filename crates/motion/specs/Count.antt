@@ -1,0 +1,8 @@
+-- Document 01, "Authorities": how many braked cycles bring any train within the ceiling to a stand.
+use Prim.Native.Nat.{ℕ, _+_}
+use Rattle.brake.specs.declared.Figures.{Figures}
+use Rattle.brake.specs.Rounding.{ceilDiv}
+
+-- B/j + V/B, both quotients rounded up. A held train has one report more: the one that orders the brake.
+unfoldable pub cyclesToStand : Figures → ℕ → ℕ
+cyclesToStand k ceiling = ceilDiv (k .full) (k .growth) + ceilDiv ceiling (k .full)

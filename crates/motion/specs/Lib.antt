@@ -1,0 +1,5 @@
+pub mod Motion
+pub mod Orders
+pub mod Count
+pub mod Bounds
+pub mod Starred

@@ -1,0 +1,171 @@
+// Worst-case motion and the order of one train: document 01, "Worst-case motion" and "Orders".
+ghost use mathlib.Core.Path.{_≡_};
+ghost use Prim.Native.Nat.{_≤_};
+ghost use Rattle.brake.specs.Consist.{Sound};
+ghost use Rattle.motion.specs.Motion.{brakeTravel, brakeSpeed, nextLevel, driveTravel, driveSpeed, stands, stoppingDistance};
+ghost use Rattle.motion.specs.Orders.{worstCase, reach, capFits, orderFor};
+ghost use Rattle.motion.specs.Bounds.{greatestTraction, Braking, Driving, Bounded, CapWithin};
+use brake::Figures;
+
+// An order: drive with a cap on the traction, or brake.
+pub enum Order {
+    Drive(u64),
+    Brake,
+}
+
+// A train at the end of a cycle: its head, its speed, and the level that a brake in the coming cycle has.
+pub struct Motion {
+    pub head: u64,
+    pub speed: u64,
+    pub level: u64,
+}
+
+// Speed ceiling V and greatest traction A.
+pub struct Limits {
+    pub ceiling: u64,
+    pub traction: u64,
+}
+
+// Travel in a braked cycle at speed v and level b. The last cycle is rounded up: never shorter than the train rolls.
+fn brake_travel(k: Figures, v: u64, b: u64) -> u64
+    requires { ⌜ Braking k v b ⌝ }
+    ensures { λ r. ⌜ r ≡ brakeTravel k v b ⌝ }
+{
+    if b <= v {
+        return 2 * v - b;
+    }
+    (v * v + (b - 1)) / b
+}
+
+// Speed at the end of a braked cycle.
+fn brake_speed(k: Figures, v: u64, b: u64) -> u64
+    requires { ⌜ Braking k v b ⌝ }
+    ensures { λ r. ⌜ r ≡ brakeSpeed k v b ⌝ }
+{
+    if b <= v {
+        return v - b;
+    }
+    0
+}
+
+// Level after a braked cycle at level b: it grows by j, up to B.
+fn next_level(k: Figures, b: u64) -> u64
+    requires { ⌜ Sound k × (b ≤ k .full) ⌝ }
+    ensures { λ r. ⌜ r ≡ nextLevel k b ⌝ }
+{
+    let full = k.full;
+    let next = b + k.growth;
+    if next <= full {
+        return next;
+    }
+    full
+}
+
+// Travel in a driven cycle with cap c.
+fn drive_travel(k: Figures, v: u64, c: u64) -> u64
+    requires { ⌜ Driving k v c ⌝ }
+    ensures { λ r. ⌜ r ≡ driveTravel k v c ⌝ }
+{
+    2 * v + c
+}
+
+// Speed at the end of a driven cycle with cap c.
+fn drive_speed(k: Figures, v: u64, c: u64) -> u64
+    requires { ⌜ Driving k v c ⌝ }
+    ensures { λ r. ⌜ r ≡ driveSpeed k v c ⌝ }
+{
+    v + c
+}
+
+// Whether a train stands: no further braked cycle moves it.
+pub fn standing(k: Figures, v: u64, b: u64) -> bool
+    ensures { λ r. ⌜ r ≡ stands k v b ⌝ }
+{
+    v == 0
+}
+
+// Stopping distance (stop travel) from speed v and level b.
+fn stopping_distance(k: Figures, v: u64, b: u64) -> u64
+    requires { ⌜ Braking k v b ⌝ }
+    ensures { λ r. ⌜ r ≡ stoppingDistance k v b ⌝ }
+{
+    let mut distance: u64 = 0;
+    let mut speed = v;
+    let mut level = b;
+    while !standing(k, speed, level) {
+        distance += brake_travel(k, speed, level);
+        speed = brake_speed(k, speed, level);
+        level = next_level(k, level);
+    }
+    distance
+}
+
+// The worst case of an order: head, speed and level at the end of the coming cycle.
+pub fn worst_case(k: Figures, m: Motion, o: Order) -> Motion
+    requires { ⌜ Bounded k m × CapWithin greatestTraction o ⌝ }
+    ensures { λ r. ⌜ r ≡ worstCase k m o ⌝ }
+{
+    let head = m.head;
+    let v = m.speed;
+    let b = m.level;
+    match o {
+        Order::Drive(c) => Motion {
+            head: head + drive_travel(k, v, c),
+            speed: drive_speed(k, v, c),
+            level: 0,
+        },
+        Order::Brake => Motion {
+            head: head + brake_travel(k, v, b),
+            speed: brake_speed(k, v, b),
+            level: next_level(k, b),
+        },
+    }
+}
+
+// Reach of an order: where its worst case stops.
+pub fn reach_of(k: Figures, m: Motion, o: Order) -> u64
+    requires { ⌜ Bounded k m × CapWithin greatestTraction o ⌝ }
+    ensures { λ r. ⌜ r ≡ reach k m o ⌝ }
+{
+    let worst = worst_case(k, m, o);
+    let head = worst.head;
+    let v = worst.speed;
+    let b = worst.level;
+    head + stopping_distance(k, v, b)
+}
+
+// Whether cap c keeps the speed ceiling, judged with its own gain, and the goal.
+fn cap_fits(k: Figures, l: Limits, goal: u64, m: Motion, c: u64) -> bool
+    requires { ⌜ Bounded k m × (c ≤ greatestTraction) ⌝ }
+    ensures { λ r. ⌜ r ≡ capFits k l goal m c ⌝ }
+{
+    let ceiling = l.ceiling;
+    let v = m.speed;
+    if ceiling < drive_speed(k, v, c) {
+        return false;
+    }
+    reach_of(k, m, Order::Drive(c)) <= goal
+}
+
+// The order of a train that is not held: drive with the greatest cap that fits, or brake where none does.
+// Every cap below a fitting one fits, so halving finds it: the caps below low fit, those from high on do not.
+// Each turn takes a binary digit off high - low: 17 trials at most, at A = 100,000.
+pub fn order_for(k: Figures, l: Limits, goal: u64, m: Motion) -> Order
+    requires { ⌜ Bounded k m × (l .traction ≤ greatestTraction) ⌝ }
+    ensures { λ r. ⌜ r ≡ orderFor k l goal m ⌝ }
+{
+    let mut low: u64 = 0;
+    let mut high = l.traction + 1;
+    while low < high {
+        let mid = low + (high - low) / 2;
+        if cap_fits(k, l, goal, m, mid) {
+            low = mid + 1;
+        } else {
+            high = mid;
+        }
+    }
+    if low == 0 {
+        return Order::Brake;
+    }
+    Order::Drive(low - 1)
+}
