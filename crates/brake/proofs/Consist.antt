@@ -1,7 +1,7 @@
 -- Laws of the brake figures.
 -- Assumes nothing.
-use Prim.Native.Nat.{ℕ, _+_, _*_, _/_, _≤_, _<_}
-use mathlib.Core.Bool.{Bool, true, false}
+use Prim.Native.Nat.{ℕ, _*_, _≤_, _<_}
+use mathlib.Core.Bool.{true, false}
 use mathlib.Core.Logic.{by-cases}
 use mathlib.Core.Path.{_≡_, refl, sym, _∙_, ap, subst}
 use native.Mathlib.Decide.{ℕ-discrete}
@@ -12,9 +12,8 @@ use borrow.Author.Tests.{ne-eqb, le-leb, lt-leb, leb-true}
 use Rattle.brake.specs.declared.Figures.{Figures}
 use Rattle.brake.specs.declared.CarFound.{CarFound}
 use Rattle.brake.specs.declared.CarFound.the-variants.{Rated, NoClass}
-use Rattle.brake.specs.declared.FiguresFound.{FiguresFound}
 use Rattle.brake.specs.declared.FiguresFound.the-variants.{Given, NoFigures}
-use Rattle.brake.specs.Consist.{greatestLength, LengthFits, Sound, lengthInRange, carOf, fullBrake, applicationTime, applicationCycles, brakeCycles, figuresWith, figuresBy, figuresOf}
+use Rattle.brake.specs.Consist.{greatestLength, LengthFits, greatestFull, Sound, lengthInRange, carOf, fullBrake, applicationTime, applicationCycles, brakeCycles, figuresWith, figuresBy, figuresOf}
 use Rattle.brake.proofs.Tests.{by-test, both}
 use Rattle.brake.proofs.Rounding.{ceil-le, ceil-positive}
 
@@ -55,9 +54,9 @@ pub record Car (force mass : ℕ) : Type 0 where
   pub force-within : force ≤ 35750
   pub mass-positive : 1 ≤ mass
   pub full-least : 87021 ≤ fullBrake force mass
-  pub full-most : fullBrake force mass ≤ 162039
+  pub full-most : fullBrake force mass ≤ greatestFull
 
-computed : (force mass : ℕ) → T (leb force 35750) → T (leb 1 mass) → T (leb 87021 (fullBrake force mass)) → T (leb (fullBrake force mass) 162039) → Car force mass
+computed : (force mass : ℕ) → T (leb force 35750) → T (leb 1 mass) → T (leb 87021 (fullBrake force mass)) → T (leb (fullBrake force mass) greatestFull) → Car force mass
 computed force mass a b c d = record { force-within = lit≤ a; mass-positive = lit≤ b; full-least = lit≤ c; full-most = lit≤ d }
 
 abbrev IsCar : CarFound → Type 0
@@ -119,7 +118,7 @@ sound-with force mass l car h =
     let most = cycles-most l h in
     let positive = cycles-positive l in
     record {
-      growth-positive = le-div-iff-mul-le positive .1 (omega (arith, car .full-least));
+      growth-positive = le-div-iff-mul-le positive .1 (omega arith);
       growth-within = div-le-self _ _;
       full-within = car .full-most;
     }

@@ -1,6 +1,6 @@
 -- Document 01, "Line and consist": the brake figures of a consist, from its load class and its length in feet.
 use Prim.Native.Nat.{ℕ, _+_, _*_, _/_, _≤_}
-use mathlib.Core.Bool.{Bool, true, false, _&&_}
+use mathlib.Core.Bool.{Bool, cond, _&&_}
 use lib.Dec.{leb, eqb}
 use Rattle.brake.specs.declared.Figures.{Figures}
 use Rattle.brake.specs.declared.CarFound.{CarFound}
@@ -19,16 +19,10 @@ lengthInRange l = leb 1 l && leb l greatestLength
 -- the load class alone decides force (lbf) and mass (lb) per car: 1 loaded, 2 empty, 3 unknown
 unfoldable pub carOf : ℕ → CarFound
 carOf load =
-    elim (eqb load 1) [
-      | true ↦ Rated 35750 263000
-      | false ↦ elim (eqb load 2) [
-        | true ↦ Rated 10575 64000
-        | false ↦ elim (eqb load 3) [
-          | true ↦ Rated 23338 263000
-          | false ↦ NoClass
-        ]
-      ]
-    ]
+    cond (eqb load 1) (Rated 35750 263000)
+    (cond (eqb load 2) (Rated 10575 64000)
+    (cond (eqb load 3) (Rated 23338 263000)
+    NoClass))
 
 -- full brake B, with standard gravity
 unfoldable pub fullBrake : ℕ → ℕ → ℕ
@@ -57,20 +51,24 @@ figuresBy (Rated force mass) l = Given (figuresWith force mass l)
 
 -- the figures of a consist, or none where its length or its load class is out of range (answer 4)
 unfoldable pub figuresOf : ℕ → ℕ → FiguresFound
-figuresOf load l = elim (lengthInRange l) [ true ↦ figuresBy (carOf load) l | false ↦ NoFigures ]
+figuresOf load l = cond (lengthInRange l) (figuresBy (carOf load) l) NoFigures
 
--- the answer number that this alone decides
+-- its answer number, as far as load class and length decide it
 abbrev pub answerTo : FiguresFound → ℕ
 answerTo (Given k) = 0
 answerTo NoFigures = 4
 
--- What the code may take for granted of a length that passed the test above, and of figures that `figuresOf` gave
--- (proofs/Consist: given-sound). Document 01 has no such words: they stand in `requires` clauses, so that no sum overflows
--- and no quotient is by 0.
+-- What the code may take for granted of a length that passed its test, and of figures that `figuresOf` gave (proofs/Consist:
+-- length-fits, given-sound). Document 01 has no such words. They stand in `requires` clauses, so that no sum overflows and
+-- no quotient is by 0.
 abbrev pub LengthFits : ℕ → Type 0
 LengthFits l = l ≤ greatestLength
+
+-- full brake of class 2, the highest of the three
+abbrev pub greatestFull : ℕ
+greatestFull = 162039
 
 pub record Sound (k : Figures) : Type 0 where
   pub growth-positive : 1 ≤ k .growth
   pub growth-within : k .growth ≤ k .full
-  pub full-within : k .full ≤ 162039
+  pub full-within : k .full ≤ greatestFull

@@ -3,15 +3,13 @@
 use Prim.Native.Nat.{ℕ, _+_, _*_, _≤_}
 use native.Mathlib.Nat.{mul-le-mul, le-trans}
 use native.Mathlib.Omega.{arith}
-use lib.Dec.{lit≤}
 use Rattle.brake.specs.declared.Figures.{Figures}
-use Rattle.brake.specs.Consist.{Sound}
 use Rattle.motion.specs.declared.Motion.{Motion}
 use Rattle.motion.specs.declared.Order.{Order}
 use Rattle.motion.specs.declared.Order.the-variants.{Drive, Brake}
 use Rattle.motion.specs.Motion.{brakeTravel, brakeSpeed, nextLevel, driveTravel, driveSpeed, enoughCycles, stoppingDistance}
-use Rattle.motion.specs.Orders.{worstCase}
-use Rattle.motion.specs.Bounds.{greatestLineEnd, greatestCeiling, greatestTraction, Braking, Driving, Bounded, CapWithin}
+use Rattle.motion.specs.Orders.{orderCap, worstCase}
+use Rattle.motion.specs.Bounds.{greatestLineEnd, greatestCeiling, greatestTraction, Braking, Driving, Bounded}
 use Rattle.motion.proofs.Cycles.{travel-le, speed-le, level-le}
 use Rattle.motion.proofs.Runs.{stop-le}
 
@@ -19,25 +17,31 @@ use Rattle.motion.proofs.Runs.{stop-le}
 pub braking-on : (k : Figures) (v b : ℕ) → Braking k v b → Braking k (brakeSpeed k v b) (nextLevel k b)
 braking-on k v b h =
     let slower = speed-le k v b in
-    record { figures = h .figures; speed = omega (arith, h .speed); level = level-le k b }
+    record { figures = h .figures; speed = omega arith; level = level-le k b }
 
--- no stopping distance is longer
+-- no run is longer, and no stopping distance
+abbrev mostCycles : ℕ
+mostCycles = greatestCeiling + greatestTraction + 1
+
 abbrev pub longestStop : ℕ
-longestStop = 40100001 * 40100002
+longestStop = mostCycles * (mostCycles + 1)
 
 pub stop-fits : (k : Figures) (v b : ℕ) → Braking k v b → stoppingDistance k v b ≤ longestStop
 unfolding enoughCycles
 stop-fits k v b h =
-    let few : enoughCycles k v b ≤ 40100001 = omega (arith, h .speed) in
-    le-trans (stop-le k v b (h .figures)) (mul-le-mul {m₂ = 40100002} few (omega arith))
+    let few : enoughCycles k v b ≤ mostCycles = omega arith in
+    le-trans (stop-le k v b (h .figures)) (mul-le-mul {m₂ = mostCycles + 1} few (omega arith))
 
 -- ---- a bounded train under an order
 
-pub braking : {k : Figures} {m : Motion} → Bounded k m → Braking k (m .speed) (m .level)
-braking h = record { figures = h .figures; speed = omega (arith, h .speed); level = h .level }
+pub bounded-cap : {k : Figures} {m : Motion} {c d : ℕ} → Bounded k m c → d ≤ c → Bounded k m d
+bounded-cap h g = record { figures = h .figures; head = h .head; speed = h .speed; level = h .level; cap = omega arith }
 
-pub driving : {k : Figures} {m : Motion} {c : ℕ} → Bounded k m → c ≤ greatestTraction → Driving k (m .speed) c
-driving h c = record { figures = h .figures; speed = h .speed; cap = c }
+pub braking : {k : Figures} {m : Motion} {c : ℕ} → Bounded k m c → Braking k (m .speed) (m .level)
+braking h = record { figures = h .figures; speed = omega arith; level = h .level }
+
+pub driving : {k : Figures} {m : Motion} {c : ℕ} → Bounded k m c → Driving k (m .speed) c
+driving h = record { figures = h .figures; speed = h .speed; cap = h .cap }
 
 -- a cycle takes the head no further
 abbrev pub longestCycle : ℕ
@@ -45,20 +49,20 @@ longestCycle = 2 * greatestCeiling + greatestTraction
 
 pub drive-travel-fits : (k : Figures) (v c : ℕ) → Driving k v c → driveTravel k v c ≤ longestCycle
 unfolding driveTravel
-drive-travel-fits k v c h = omega (arith, h .speed, h .cap)
+drive-travel-fits k v c h = omega arith
 
-pub brake-travel-fits : (k : Figures) (m : Motion) → Bounded k m → brakeTravel k (m .speed) (m .level) ≤ longestCycle
-brake-travel-fits k m h = let t = travel-le k (m .speed) (m .level) in omega (arith, h .speed)
+pub brake-travel-fits : (k : Figures) (m : Motion) {c : ℕ} → Bounded k m c → brakeTravel k (m .speed) (m .level) ≤ longestCycle
+brake-travel-fits k m h = let t = travel-le k (m .speed) (m .level) in omega arith
 
 -- the worst case of its order
-pub worst-head : (k : Figures) (m : Motion) (o : Order) → Bounded k m → CapWithin greatestTraction o → worstCase k m o .head ≤ greatestLineEnd + longestCycle
-worst-head k m (Drive c) h w = let t = drive-travel-fits k (m .speed) c (driving h w) in omega (arith, h .head)
-worst-head k m Brake h w = let t = brake-travel-fits k m h in omega (arith, h .head)
+pub worst-head : (k : Figures) (m : Motion) (o : Order) → Bounded k m (orderCap o) → worstCase k m o .head ≤ greatestLineEnd + longestCycle
+worst-head k m (Drive c) h = let t = drive-travel-fits k (m .speed) c (driving h) in omega arith
+worst-head k m Brake h = let t = brake-travel-fits k m h in omega arith
 
-pub worst-braking : (k : Figures) (m : Motion) (o : Order) → Bounded k m → CapWithin greatestTraction o → Braking k (worstCase k m o .speed) (worstCase k m o .level)
+pub worst-braking : (k : Figures) (m : Motion) (o : Order) → Bounded k m (orderCap o) → Braking k (worstCase k m o .speed) (worstCase k m o .level)
 unfolding driveSpeed
-worst-braking k m (Drive c) h w = record { figures = h .figures; speed = omega (arith, h .speed); level = omega arith }
-worst-braking k m Brake h w = braking-on k (m .speed) (m .level) (braking h)
+worst-braking k m (Drive c) h = record { figures = h .figures; speed = omega arith; level = omega arith }
+worst-braking k m Brake h = braking-on k (m .speed) (m .level) (braking h)
 
 -- ---- the speed bound
 

@@ -1,6 +1,6 @@
 -- Domination: of two trains at the same level, the one that is no further on and no faster stays so, cycle by cycle.
 -- Assumes nothing.
-use Prim.Native.Nat.{ℕ, _+_, _≤_}
+use Prim.Native.Nat.{ℕ, _≤_}
 use mathlib.Core.Path.{_≡_, refl, ap}
 use native.Mathlib.Omega.{arith}
 use Rattle.brake.specs.declared.Figures.{Figures}
@@ -25,13 +25,13 @@ no-worse-brake k m m′ h =
     let speed = speed-mono k (m .level) (h .speed) in
     let same = ap (brakeTravel k (m′ .speed)) (h .level) in
     let same′ = ap (brakeSpeed k (m′ .speed)) (h .level) in
-    record { head = omega (arith, h .head); speed = omega arith; level = ap (nextLevel k) (h .level) }
+    record { head = omega arith; speed = omega arith; level = ap (nextLevel k) (h .level) }
 
 -- and where one drives with a smaller cap
 pub no-worse-drive : (k : Figures) (m m′ : Motion) {c c′ : ℕ} → NoWorse m m′ → c ≤ c′ → NoWorse (worstCase k m (Drive c)) (worstCase k m′ (Drive c′))
 no-worse-drive k m m′ h g =
     let travel = drive-travel-mono k (h .speed) g in
-    record { head = omega (arith, h .head); speed = drive-speed-mono k (h .speed) g; level = refl }
+    record { head = omega arith; speed = drive-speed-mono k (h .speed) g; level = refl }
 
 -- so it stops no further on
 pub no-worse-stop : (k : Figures) (m m′ : Motion) → Sound k → NoWorse m m′ → stoppingPlace k m ≤ stoppingPlace k m′
@@ -39,7 +39,7 @@ unfolding stoppingPlace
 no-worse-stop k m m′ s h =
     let distance = stop-mono k (m .level) s (h .speed) in
     let same = ap (stoppingDistance k (m′ .speed)) (h .level) in
-    omega (arith, h .head)
+    omega arith
 
 -- ---- reach
 
@@ -47,11 +47,6 @@ no-worse-stop k m m′ s h =
 pub reach-brake : (k : Figures) (m : Motion) → Sound k → reach k m Brake ≡ stoppingPlace k m
 unfolding stoppingPlace
 reach-brake k m s = let cycle = stop-cycle k (m .speed) (m .level) s in omega arith
-
--- worst-case head ≤ reach
-pub worst-reach : (k : Figures) (m : Motion) (o : Order) → worstCase k m o .head ≤ reach k m o
-unfolding stoppingPlace
-worst-reach k m o = omega arith
 
 -- head ≤ reach
 pub head-reach : (k : Figures) (m : Motion) (o : Order) → m .head ≤ reach k m o

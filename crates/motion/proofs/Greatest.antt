@@ -11,6 +11,7 @@ use Rattle.brake.proofs.Tests.{by-test}
 use Rattle.motion.specs.declared.Order.{Order}
 use Rattle.motion.specs.declared.Order.the-variants.{Drive, Brake}
 use Rattle.motion.specs.Orders.{greatest}
+use Rattle.motion.specs.Bounds.{greatestTraction}
 
 -- ---- what the greatest is
 
@@ -44,7 +45,7 @@ module _ (passes : ℕ → Bool) where
   up : (n : ℕ) (o : Order) → passes (suc n) ≡ false → Chosen passes n o → Chosen passes (suc n) o
   up n (Drive c) f g =
       record {
-        within = omega (arith, g .within);
+        within = omega arith;
         itself = g .itself;
         above = λ d p q. by-cases (decLe d n) (λ h. g .above d p h) (λ h. let z : d ≡ suc n = omega arith in ap passes z ∙ f);
       }
@@ -98,7 +99,7 @@ module _ (passes : ℕ → Bool) (closed : (c d : ℕ) → c ≤ d → passes d 
   bracket-down low high mid b g h f =
       record {
         ordered = g;
-        within = omega (arith, b .within);
+        within = omega arith;
         below = b .below;
         above = λ d p q. by-test (passes d) (λ t. absurd (true≢false (sym (closed mid d p t) ∙ f))) (λ f. f);
       }
@@ -110,7 +111,7 @@ bracket-none passes n low high b h z = greatest-only passes n Brake (λ d q. b .
 pub bracket-found : (passes : ℕ → Bool) (n low high : ℕ) → Bracket passes n low high → high ≤ low → 0 < low → greatest passes n ≡ Drive (low - 1)
 bracket-found passes n low high b h some =
     greatest-only passes n (Drive (low - 1))
-    (record { within = omega (arith, b .within, b .ordered); itself = b .below (low - 1) (omega arith); above = λ d p q. b .above d (omega arith) q })
+    (record { within = omega arith; itself = b .below (low - 1) (omega arith); above = λ d p q. b .above d (omega arith) q })
 
 -- number of binary digits; the first argument bounds the recursion
 digitsWithin : ℕ → ℕ → ℕ
@@ -136,7 +137,7 @@ unfolding digits digitsWithin
 half-digits m zero h p = absurd (omega arith)
 half-digits m (suc n) h p = let less = digits-mono m n m (suc n / 2) p (le-refl m) (omega arith) in omega arith
 
--- caps from 0 to the greatest traction, and none: 17 trials
-pub trials : digits 100001 ≡ 17
+-- so halving the caps from 0 to A, and none of them, takes 17 trials at most
+pub trials-most : (traction : ℕ) → traction ≤ greatestTraction → digits (traction + 1) ≤ 17
 unfolding digits digitsWithin
-trials = refl
+trials-most traction h = digits-mono (traction + 1) 100001 (traction + 1) 100001 (omega arith) (le-refl _) (le-refl _)

@@ -1,23 +1,23 @@
 -- Laws of orders: the cap that fits, and what an accepted report keeps.
 -- Assumes nothing.
-use Prim.Native.Nat.{ℕ, _+_, _≤_, _<_}
-use mathlib.Core.Bool.{Bool, true, false, _&&_}
+use Prim.Native.Nat.{ℕ, _≤_, _<_}
+use mathlib.Core.Bool.{true, false}
 use mathlib.Core.Logic.{_⊎_, inl, inr}
-use mathlib.Core.Path.{_≡_, refl, sym, _∙_, ap, subst}
+use mathlib.Core.Path.{_≡_, refl, sym, _∙_, subst}
 use native.Mathlib.Nat.{le-trans, le-refl}
 use native.Mathlib.Omega.{arith}
 use lib.Dec.{leb}
 use borrow.Author.Tests.{le-leb, lt-leb, leb-true}
 use Rattle.brake.specs.declared.Figures.{Figures}
 use Rattle.brake.specs.Consist.{Sound}
-use Rattle.brake.proofs.Tests.{by-test, both}
+use Rattle.brake.proofs.Tests.{both}
 use Rattle.motion.specs.declared.Motion.{Motion}
 use Rattle.motion.specs.declared.Limits.{Limits}
 use Rattle.motion.specs.declared.Order.{Order}
 use Rattle.motion.specs.declared.Order.the-variants.{Drive, Brake}
 use Rattle.motion.specs.Motion.{driveSpeed, releasedLevel}
-use Rattle.motion.specs.Orders.{worstCase, reach, capFits, orderFor}
-use Rattle.motion.specs.Bounds.{greatestLineEnd, greatestCeiling, Bounded, CapWithin}
+use Rattle.motion.specs.Orders.{orderCap, worstCase, reach, capFits, orderFor}
+use Rattle.motion.specs.Bounds.{greatestLineEnd, greatestCeiling, greatestTraction, Bounded}
 use Rattle.motion.proofs.Cycles.{level-le}
 use Rattle.motion.proofs.Bounds.{speedBound, bound-ceiling, bound-brake, bound-fits}
 use Rattle.motion.proofs.Domination.{NoWorse, no-worse-drive, no-worse-stop, brake-keeps}
@@ -75,13 +75,13 @@ pub record Within (k : Figures) (l : Limits) (m : Motion) (o : Order) : Type 0 w
   pub speed : m .speed ≤ speedBound k (l .ceiling) (m .level)
   pub level : m .level ≤ k .full
   pub worst : worstCase k m o .speed ≤ speedBound k (l .ceiling) (worstCase k m o .level)
-  pub cap : CapWithin (l .traction) o
+  pub cap : orderCap o ≤ l .traction
 
 -- an entering train, standing under full brake
 pub within-entering : (k : Figures) (l : Limits) (m : Motion) → m .speed ≡ 0 → m .level ≡ k .full → Within k l m Brake
 within-entering k l m still full =
     let slow : m .speed ≤ speedBound k (l .ceiling) (m .level) = bound-ceiling k (l .ceiling) (m .level) (m .speed) (omega arith) in
-    record { speed = slow; level = omega arith; worst = bound-brake k (l .ceiling) (m .level) (m .speed) slow; cap = tt }
+    record { speed = slow; level = omega arith; worst = bound-brake k (l .ceiling) (m .level) (m .speed) slow; cap = omega arith }
 
 -- a report no worse than the worst case, and the order that it gets
 level-kept : (k : Figures) (m : Motion) (o : Order) → worstCase k m o .level ≤ k .full
@@ -105,11 +105,18 @@ within-report k l m o m′ o′ goal w h order =
     worst-kept (Drive c) slow order = bound-ceiling k (l .ceiling) releasedLevel _ (fits-keeps k l goal m′ c (ordered-cap k l goal m′ c order .itself) .0)
     worst-kept Brake slow order = bound-brake k (l .ceiling) (m′ .level) (m′ .speed) slow
 
-    cap-kept : (o′ : Order) → MayOrder k l goal m′ o′ → CapWithin (l .traction) o′
+    cap-kept : (o′ : Order) → MayOrder k l goal m′ o′ → orderCap o′ ≤ l .traction
     cap-kept (Drive c) order = ordered-cap k l goal m′ c order .within
-    cap-kept Brake order = tt
+    cap-kept Brake order = omega arith
 
 -- so every sum of a train's calls fits
-pub within-bounded : (k : Figures) (l : Limits) (m : Motion) (o : Order) → Sound k → l .ceiling ≤ greatestCeiling → m .head ≤ greatestLineEnd → Within k l m o → Bounded k m
-within-bounded k l m o s v h w =
-    record { figures = s; head = h; speed = bound-fits k (l .ceiling) (m .level) (m .speed) v (w .speed); level = w .level }
+pub within-bounded : (k : Figures) (l : Limits) (m : Motion) (o : Order) → Sound k
+    → l .ceiling ≤ greatestCeiling → l .traction ≤ greatestTraction → m .head ≤ greatestLineEnd → Within k l m o → Bounded k m (orderCap o)
+within-bounded k l m o s v a h w =
+    record {
+      figures = s;
+      head = h;
+      speed = bound-fits k (l .ceiling) (m .level) (m .speed) v (w .speed);
+      level = w .level;
+      cap = omega arith;
+    }

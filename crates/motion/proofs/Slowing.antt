@@ -1,6 +1,6 @@
 -- A train that only brakes slows down in time.
 -- Assumes nothing.
-use Prim.Native.Nat.{ℕ, suc, _+_, _-_, _*_, _≤_, min}
+use Prim.Native.Nat.{ℕ, suc, _-_, _*_, _≤_, min}
 use mathlib.Core.Bool.{true}
 use mathlib.Core.Logic.{by-cases}
 use mathlib.Core.Path.{_≡_}
@@ -60,6 +60,6 @@ slowed-brake k ceiling n m m′ s p h =
 pub slowed-stands : (k : Figures) (ceiling n : ℕ) (m : Motion) → Sound k → cyclesToStand k ceiling ≤ n → Slowed k ceiling n m → stands k (m .speed) (m .level) ≡ true
 unfolding cyclesToStand stands
 slowed-stands k ceiling n m s h p =
-    let enough = ceil-ge ceiling {b = k .full} (omega (arith, s .growth-positive, s .growth-within)) in
+    let enough = ceil-ge ceiling {b = k .full} (omega arith) in
     let r : ceilDiv ceiling (k .full) * k .full ≤ (n - ceilDiv (k .full) (k .growth)) * k .full = mul-le-mul-right (k .full) (omega arith) in
-    eq-eqb (m .speed) 0 (omega (arith, p .slowed))
+    eq-eqb (m .speed) 0 (omega arith)

@@ -1,7 +1,8 @@
 -- Document 01, "Worst-case motion". Speeds, caps and levels are in µm/s, travel is in steps of 50 nm.
--- Each definition takes the brake figures, also where flat track needs none: what a line adds to the motion joins them.
+-- Each definition takes the brake figures, also where flat track needs none: what a line adds to the motion will join them.
+-- `cond` chooses by a test; so does `elim` with its two cases, where only the one that is chosen may be computed.
 use Prim.Native.Nat.{ℕ, zero, suc, _+_, _-_, _*_, min}
-use mathlib.Core.Bool.{Bool, true, false}
+use mathlib.Core.Bool.{Bool, true, false, cond}
 use mathlib.Core.List.{List, [], _∷_}
 use lib.Dec.{leb, eqb}
 use Rattle.brake.specs.declared.Figures.{Figures}
@@ -9,7 +10,7 @@ use Rattle.brake.specs.Rounding.{ceilDiv}
 
 -- travel in a braked cycle at speed v and level b
 unfoldable pub brakeTravel : Figures → ℕ → ℕ → ℕ
-brakeTravel k v b = elim (leb b v) [ true ↦ 2 * v - b | false ↦ ceilDiv (v * v) b ]
+brakeTravel k v b = cond (leb b v) (2 * v - b) (ceilDiv (v * v) b)
 
 -- speed at its end: v − b where v is at least b, otherwise 0, as ℕ's difference is
 unfoldable pub brakeSpeed : Figures → ℕ → ℕ → ℕ
@@ -51,7 +52,7 @@ firstCycles (suc n) k v b =
     elim (stands k v b) [ true ↦ [] | false ↦ brakedCycle k v b ∷ firstCycles n k (brakeSpeed k v b) (nextLevel k b) ]
 
 -- No run is longer than this: one cycle at level 0, and each cycle after it takes off at least 1. It only makes the run
--- below computable: more changes nothing (proofs/Runs: first-enough, run-stands, run-moves).
+-- below computable: more changes nothing (proofs/Runs: run-enough, run-stands, run-moves).
 unfoldable pub enoughCycles : Figures → ℕ → ℕ → ℕ
 enoughCycles k v b = v + (1 - b)
 

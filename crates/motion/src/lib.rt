@@ -3,8 +3,8 @@ ghost use mathlib.Core.Path.{_≡_};
 ghost use Prim.Native.Nat.{_≤_};
 ghost use Rattle.brake.specs.Consist.{Sound};
 ghost use Rattle.motion.specs.Motion.{brakeTravel, brakeSpeed, nextLevel, driveTravel, driveSpeed, stands, stoppingDistance};
-ghost use Rattle.motion.specs.Orders.{worstCase, reach, capFits, orderFor};
-ghost use Rattle.motion.specs.Bounds.{greatestTraction, Braking, Driving, Bounded, CapWithin};
+ghost use Rattle.motion.specs.Orders.{orderCap, worstCase, reach, capFits, orderFor};
+ghost use Rattle.motion.specs.Bounds.{Braking, Driving, Bounded};
 use brake::Figures;
 
 // An order: drive with a cap on the traction, or brake.
@@ -42,10 +42,10 @@ fn brake_speed(k: Figures, v: u64, b: u64) -> u64
     requires { ⌜ Braking k v b ⌝ }
     ensures { λ r. ⌜ r ≡ brakeSpeed k v b ⌝ }
 {
-    if b <= v {
-        return v - b;
+    if v < b {
+        return 0;
     }
-    0
+    v - b
 }
 
 // Level after a braked cycle at level b: it grows by j, up to B.
@@ -102,7 +102,7 @@ fn stopping_distance(k: Figures, v: u64, b: u64) -> u64
 
 // The worst case of an order: head, speed and level at the end of the coming cycle.
 pub fn worst_case(k: Figures, m: Motion, o: Order) -> Motion
-    requires { ⌜ Bounded k m × CapWithin greatestTraction o ⌝ }
+    requires { ⌜ Bounded k m (orderCap o) ⌝ }
     ensures { λ r. ⌜ r ≡ worstCase k m o ⌝ }
 {
     let head = m.head;
@@ -124,7 +124,7 @@ pub fn worst_case(k: Figures, m: Motion, o: Order) -> Motion
 
 // Reach of an order: where its worst case stops.
 pub fn reach_of(k: Figures, m: Motion, o: Order) -> u64
-    requires { ⌜ Bounded k m × CapWithin greatestTraction o ⌝ }
+    requires { ⌜ Bounded k m (orderCap o) ⌝ }
     ensures { λ r. ⌜ r ≡ reach k m o ⌝ }
 {
     let worst = worst_case(k, m, o);
@@ -136,7 +136,7 @@ pub fn reach_of(k: Figures, m: Motion, o: Order) -> u64
 
 // Whether cap c keeps the speed ceiling, judged with its own gain, and the goal.
 fn cap_fits(k: Figures, l: Limits, goal: u64, m: Motion, c: u64) -> bool
-    requires { ⌜ Bounded k m × (c ≤ greatestTraction) ⌝ }
+    requires { ⌜ Bounded k m c ⌝ }
     ensures { λ r. ⌜ r ≡ capFits k l goal m c ⌝ }
 {
     let ceiling = l.ceiling;
@@ -151,7 +151,7 @@ fn cap_fits(k: Figures, l: Limits, goal: u64, m: Motion, c: u64) -> bool
 // Every cap below a fitting one fits, so halving finds it: the caps below low fit, those from high on do not.
 // Each turn takes a binary digit off high - low: 17 trials at most, at A = 100,000.
 pub fn order_for(k: Figures, l: Limits, goal: u64, m: Motion) -> Order
-    requires { ⌜ Bounded k m × (l .traction ≤ greatestTraction) ⌝ }
+    requires { ⌜ Bounded k m (l .traction) ⌝ }
     ensures { λ r. ⌜ r ≡ orderFor k l goal m ⌝ }
 {
     let mut low: u64 = 0;

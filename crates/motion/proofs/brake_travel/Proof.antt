@@ -6,13 +6,14 @@ use native.Mathlib.Nat.{mul-le-mul}
 use native.Mathlib.Omega.{arith}
 use borrow.Author.Needs.{needs}
 use Rattle.brake.specs.Rounding.{ceilDiv}
+use Rattle.brake.specs.Consist.{greatestFull}
 use Rattle.motion.proofs.Cycles.{travel-on, travel-last}
 use Rattle.motion.proofs.brake_travel.Statement.{statement}
 use Rattle.motion.proofs.brake_travel.Tie as tie
 
 -- only a speed below the level is squared
-square : (v b : ℕ) → v < b → b ≤ 162039 → v * v ≤ 162039 * 162039
-square v b below within = let h : v ≤ 162039 = omega arith in mul-le-mul h h
+square : (v b : ℕ) → v < b → b ≤ greatestFull → v * v ≤ greatestFull * greatestFull
+square v b below within = let h : v ≤ greatestFull = omega arith in mul-le-mul h h
 
 mul-result : tie.Need-mul-result
 mul-result c = search needs

@@ -1,12 +1,12 @@
 -- `motion::order_for` meets its contract: the caps below low fit, those from high on do not, and the two close in.
--- The measure is the number of binary digits of their distance: at most 17 trials (Greatest: trials).
+-- The measure is the number of binary digits of their distance: at most 17 trials (Greatest: trials-most).
 -- Assumes nothing.
 use Prim.Native.Nat.{ℕ, _-_, _≤_}
 use mathlib.Core.Bool.{true}
 use mathlib.Core.Path.{_≡_, sym, _∙_}
 use native.Mathlib.Omega.{arith}
-use borrow.Author.Needs.{needs}
 use Rattle.motion.specs.Orders.{capFits, orderFor}
+use Rattle.motion.proofs.Bounds.{bounded-cap}
 use Rattle.motion.proofs.Greatest.{Bracket, bracket-up, bracket-down, bracket-none, bracket-found, digits, half-digits}
 use Rattle.motion.proofs.Orders.{fits-below}
 use Rattle.motion.proofs.order_for.Statement.{statement}
@@ -20,7 +20,7 @@ abbrev μ-loop : tie.MeasureT-loop
 
 -- below a cap that fits every cap fits
 closed : (c : tie.Start Inv-loop μ-loop) → let a = c .args in (x y : ℕ) → x ≤ y → capFits (a .k) (a .l) (a .goal) (a .m) y ≡ true → capFits (a .k) (a .l) (a .goal) (a .m) x ≡ true
-closed c x y h e = fits-below _ _ _ _ x y (c .pre .0 .figures) h e
+closed c x y h e = fits-below _ _ _ _ x y (c .pre .figures) h e
 
 add-high : tie.Need-add-high Inv-loop μ-loop
 add-high c = omega arith
@@ -35,7 +35,7 @@ add-mid : tie.Need-add-mid Inv-loop μ-loop
 add-mid c = omega arith
 
 cap-fits-requires : tie.Need-cap-fits-requires Inv-loop μ-loop
-cap-fits-requires c κs = let p = c .before .before .before .pre in (p .0, omega (arith, p .1, c .before .loop .inv .within))
+cap-fits-requires c κs = bounded-cap (c .before .before .before .pre) (omega arith)
 
 add-low : tie.Need-add-low Inv-loop μ-loop
 add-low c = omega arith

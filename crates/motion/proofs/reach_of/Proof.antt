@@ -13,7 +13,7 @@ worst-case-requires c κs = search needs
 
 -- the worst case brakes within bounds
 worst : (c : tie.Start) → let a = c .args in Braking (a .k) (worstCase (a .k) (a .m) (a .o) .speed) (worstCase (a .k) (a .m) (a .o) .level)
-worst c = worst-braking (c .args .k) (c .args .m) (c .args .o) (c .pre .0) (c .pre .1)
+worst c = worst-braking (c .args .k) (c .args .m) (c .args .o) (c .pre)
 
 stopping-distance-requires : tie.Need-stopping-distance-requires
 stopping-distance-requires c κs = rw (c .worst-case .ensures) (worst (c .before))
@@ -22,7 +22,7 @@ add-result : tie.Need-add-result
 add-result c =
     let start = c .before .before in
     let a = start .args in
-    let head = worst-head (a .k) (a .m) (a .o) (start .pre .0) (start .pre .1) in
+    let head = worst-head (a .k) (a .m) (a .o) (start .pre) in
     let stop = stop-fits _ _ _ (worst start) in
     rw (c .stopping-distance .ensures, c .before .worst-case .ensures) (omega arith)
 

@@ -1,11 +1,11 @@
 -- `motion::worst_case` meets its contract.
 -- Assumes nothing.
-use Prim.Native.Nat.{ℕ, _≤_}
-use mathlib.Core.Path.{_≡_, sym, subst}
+use mathlib.Core.Path.{subst}
 use native.Mathlib.Omega.{arith}
 use borrow.Author.Needs.{needs}
-use Rattle.motion.specs.Orders.{worstCase}
-use Rattle.motion.specs.Bounds.{greatestTraction, Driving, CapWithin}
+use Rattle.motion.specs.declared.Order.{Order}
+use Rattle.motion.specs.Orders.{orderCap}
+use Rattle.motion.specs.Bounds.{Driving, Bounded}
 use Rattle.motion.proofs.Bounds.{driving, drive-travel-fits, brake-travel-fits}
 use Rattle.motion.proofs.worst_case.Statement.{statement}
 use Rattle.motion.proofs.worst_case.Tie as tie
@@ -18,13 +18,13 @@ abbrev S : tie.After-known-told → tie.Start
 S c = c .before .before .before
 
 driven : (c : tie.After-known-told) → Driving (S c .args .k) (S c .args .m .speed) (c .before .o .given .0 .0)
-driven c = driving (S c .pre .0) (subst (CapWithin greatestTraction) (c .before .o .given .1) (S c .pre .1))
+driven c = driving (subst (λ (o : Order). Bounded (S c .args .k) (S c .args .m) (orderCap o)) (c .before .o .given .1) (S c .pre))
 
 drive-travel-requires : tie.Need-drive-travel-requires
 drive-travel-requires c κs = driven c
 
 add-t10 : tie.Need-add-t10
-add-t10 c = omega (arith, c .drive-travel .ensures, drive-travel-fits _ _ _ (driven (c .before)), S (c .before) .pre .0 .head)
+add-t10 c = omega (arith, c .drive-travel .ensures, drive-travel-fits _ _ _ (driven (c .before)), S (c .before) .pre .head)
 
 drive-speed-requires : tie.Need-drive-speed-requires
 drive-speed-requires c κs = driven (c .before)
@@ -36,7 +36,7 @@ brake-travel-requires : tie.Need-brake-travel-requires
 brake-travel-requires c κs = search needs
 
 add-t13 : tie.Need-add-t13
-add-t13 c = let start = c .before .before .before in omega (arith, c .brake-travel .ensures, brake-travel-fits _ _ (start .pre .0), start .pre .0 .head)
+add-t13 c = let start = c .before .before .before in omega (arith, c .brake-travel .ensures, brake-travel-fits _ _ (start .pre), start .pre .head)
 
 brake-speed-requires : tie.Need-brake-speed-requires
 brake-speed-requires c κs = search needs
