@@ -45,6 +45,7 @@ brakeCycles l = applicationCycles l
 unfoldable pub figuresWith : ℕ → ℕ → ℕ → Figures
 figuresWith force mass l = record { full = fullBrake force mass; growth = fullBrake force mass / brakeCycles l }
 
+-- the same for what a load class says of its cars
 unfoldable pub figuresBy : CarFound → ℕ → FiguresFound
 figuresBy NoClass l = NoFigures
 figuresBy (Rated force mass) l = Given (figuresWith force mass l)

@@ -77,37 +77,34 @@ pub record Within (k : Figures) (l : Limits) (m : Motion) (o : Order) : Type 0 w
   pub worst : worstCase k m o .speed ≤ speedBound k (l .ceiling) (worstCase k m o .level)
   pub cap : orderCap o ≤ l .traction
 
--- an entering train, standing under full brake
+-- whatever a report orders keeps them
+within-order : (k : Figures) (l : Limits) (goal : ℕ) (m : Motion) (o : Order) → m .speed ≤ speedBound k (l .ceiling) (m .level) → m .level ≤ k .full
+    → MayOrder k l goal m o → Within k l m o
+within-order k l goal m (Drive c) speed level order =
+    let greatest = ordered-cap k l goal m c order in
+    record {
+      speed = speed;
+      level = level;
+      worst = bound-ceiling k (l .ceiling) releasedLevel _ (fits-keeps k l goal m c (greatest .itself) .0);
+      cap = greatest .within;
+    }
+within-order k l goal m Brake speed level order =
+    record { speed = speed; level = level; worst = bound-brake k (l .ceiling) (m .level) (m .speed) speed; cap = omega arith }
+
+-- a train enters standing, under full brake
 pub within-entering : (k : Figures) (l : Limits) (m : Motion) → m .speed ≡ 0 → m .level ≡ k .full → Within k l m Brake
-within-entering k l m still full =
-    let slow : m .speed ≤ speedBound k (l .ceiling) (m .level) = bound-ceiling k (l .ceiling) (m .level) (m .speed) (omega arith) in
-    record { speed = slow; level = omega arith; worst = bound-brake k (l .ceiling) (m .level) (m .speed) slow; cap = omega arith }
+within-entering k l m stands full =
+    within-order k l 0 m Brake (bound-ceiling k (l .ceiling) (m .level) (m .speed) (omega arith)) (omega arith) (inl refl)
 
--- a report no worse than the worst case, and the order that it gets
-level-kept : (k : Figures) (m : Motion) (o : Order) → worstCase k m o .level ≤ k .full
-level-kept k m (Drive c) = omega arith
-level-kept k m Brake = level-le k (m .level)
+worst-level : (k : Figures) (m : Motion) (o : Order) → worstCase k m o .level ≤ k .full
+worst-level k m (Drive c) = omega arith
+worst-level k m Brake = level-le k (m .level)
 
+-- and reports no worse than the worst case
 pub within-report : (k : Figures) (l : Limits) (m : Motion) (o : Order) (m′ : Motion) (o′ : Order) (goal : ℕ)
     → Within k l m o → NoWorse m′ (worstCase k m o) → MayOrder k l goal m′ o′ → Within k l m′ o′
 within-report k l m o m′ o′ goal w h order =
-    let slow : m′ .speed ≤ speedBound k (l .ceiling) (m′ .level) =
-    rw (h .level) (le-trans (h .speed) (w .worst)) in
-    record {
-      speed = slow;
-      level = rw (h .level) (level-kept k m o);
-      worst = worst-kept o′ slow order;
-      cap = cap-kept o′ order;
-    }
-  where
-    worst-kept : (o′ : Order) → m′ .speed ≤ speedBound k (l .ceiling) (m′ .level) → MayOrder k l goal m′ o′
-        → worstCase k m′ o′ .speed ≤ speedBound k (l .ceiling) (worstCase k m′ o′ .level)
-    worst-kept (Drive c) slow order = bound-ceiling k (l .ceiling) releasedLevel _ (fits-keeps k l goal m′ c (ordered-cap k l goal m′ c order .itself) .0)
-    worst-kept Brake slow order = bound-brake k (l .ceiling) (m′ .level) (m′ .speed) slow
-
-    cap-kept : (o′ : Order) → MayOrder k l goal m′ o′ → orderCap o′ ≤ l .traction
-    cap-kept (Drive c) order = ordered-cap k l goal m′ c order .within
-    cap-kept Brake order = omega arith
+    within-order k l goal m′ o′ (rw (h .level) (le-trans (h .speed) (w .worst))) (rw (h .level) (worst-level k m o)) order
 
 -- so every sum of a train's calls fits
 pub within-bounded : (k : Figures) (l : Limits) (m : Motion) (o : Order) → Sound k

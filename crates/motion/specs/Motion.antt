@@ -1,5 +1,5 @@
--- Document 01, "Worst-case motion". Speeds, caps and levels are in µm/s, travel is in steps of 50 nm.
--- Each definition takes the brake figures, also where flat track needs none: what a line adds to the motion will join them.
+-- Document 01, "Worst-case motion". Speed v, cap c and level b are in µm/s, travel is in steps of 50 nm.
+-- Each definition takes the brake figures k, also where flat track needs none: what a line adds to the motion will join them.
 -- `cond` chooses by a test; so does `elim` with its two cases, where only the one that is chosen may be computed.
 use Prim.Native.Nat.{ℕ, zero, suc, _+_, _-_, _*_, min}
 use mathlib.Core.Bool.{Bool, true, false, cond}
@@ -42,6 +42,7 @@ pub record Cycle : Type 0 where
   pub before : ℕ
   pub after : ℕ
 
+-- braked cycle
 unfoldable pub brakedCycle : Figures → ℕ → ℕ → Cycle
 brakedCycle k v b = record { travel = brakeTravel k v b; before = v; after = brakeSpeed k v b }
 
@@ -60,6 +61,7 @@ enoughCycles k v b = v + (1 - b)
 unfoldable pub brakedRun : Figures → ℕ → ℕ → List Cycle
 brakedRun k v b = firstCycles (enoughCycles k v b) k v b
 
+-- how far a run goes
 unfoldable pub totalTravel : List Cycle → ℕ
 totalTravel [] = 0
 totalTravel (c ∷ cs) = c .travel + totalTravel cs

@@ -1,4 +1,5 @@
--- Document 01, "Orders".
+-- Document 01, "Orders": what an order o allows a train with figures k and motion m, and which order it gets on a line with
+-- limits l.
 use Prim.Native.Nat.{ℕ, zero, suc, _+_}
 use mathlib.Core.Bool.{Bool, true, false, _&&_}
 use lib.Dec.{leb}
