@@ -1,6 +1,6 @@
 -- Laws of the brake figures.
 -- Assumes nothing.
-use Prim.Native.Nat.{ℕ, _*_, _≤_, _<_}
+use Prim.Native.Nat.{ℕ, _*_, _^_, _≤_, _<_}
 use mathlib.Core.Bool.{true, false}
 use mathlib.Core.Logic.{by-cases}
 use mathlib.Core.Path.{_≡_, refl, sym, _∙_, ap, subst}
@@ -13,15 +13,15 @@ use Rattle.brake.specs.declared.Figures.{Figures}
 use Rattle.brake.specs.declared.CarFound.{CarFound}
 use Rattle.brake.specs.declared.CarFound.the-variants.{Rated, NoClass}
 use Rattle.brake.specs.declared.FiguresFound.the-variants.{Given, NoFigures}
-use Rattle.brake.specs.Consist.{greatestLength, LengthFits, greatestFull, Sound, lengthInRange, carOf, fullBrake, applicationTime, applicationCycles, brakeCycles, figuresWith, figuresBy, figuresOf}
+use Rattle.brake.specs.Consist.{greatestLength, greatestFull, Sound, lengthInRange, carOf, fullBrake, applicationTime, applicationCycles, brakeCycles, figuresWith, figuresBy, figuresOf}
 use Rattle.brake.proofs.Tests.{by-test, both}
 use Rattle.brake.proofs.Rounding.{ceil-le, ceil-positive}
 
 -- ---- length
 
-pub length-fits : (l : ℕ) → lengthInRange l ≡ true → LengthFits l
+pub length-within : (l : ℕ) → lengthInRange l ≡ true → l ≤ greatestLength
 unfolding lengthInRange
-length-fits l e = leb-true l greatestLength (both (leb 1 l) (leb l greatestLength) e .1)
+length-within l e = leb-true l greatestLength (both (leb 1 l) (leb l greatestLength) e .1)
 
 pub length-short : (l : ℕ) → l < 1 → lengthInRange l ≡ false
 unfolding lengthInRange
@@ -79,11 +79,15 @@ car-bounds n e = subst IsCar e (is-car n)
 
 -- ---- cycles
 
-pub time-most : (l : ℕ) → LengthFits l → applicationTime l ≤ 1961 * 100000000
+time-most : (l : ℕ) → l ≤ greatestLength → applicationTime l ≤ 1961 * 100000000
 unfolding applicationTime
 time-most l h = let m = mul-le-mul h h in omega arith
 
-pub cycles-most : (l : ℕ) → LengthFits l → brakeCycles l ≤ 1961
+pub time-fits : (l : ℕ) → l < 2 ^ 16 → applicationTime l < 2 ^ 42
+unfolding applicationTime
+time-fits l h = let n : l ≤ 65535 = omega arith in let m = mul-le-mul n n in omega arith
+
+cycles-most : (l : ℕ) → l ≤ greatestLength → brakeCycles l ≤ 1961
 unfolding brakeCycles applicationCycles
 cycles-most l h = ceil-le 1961 (lit< tt) (time-most l h)
 
@@ -112,7 +116,7 @@ pub figures-given : (load l : ℕ) {force mass : ℕ} → lengthInRange l ≡ tr
 unfolding figuresBy
 figures-given load l t e = figures-in load l t ∙ ap (λ (f : CarFound). figuresBy f l) e
 
-sound-with : (force mass l : ℕ) → Car force mass → LengthFits l → Sound (figuresWith force mass l)
+sound-with : (force mass l : ℕ) → Car force mass → l ≤ greatestLength → Sound (figuresWith force mass l)
 unfolding figuresWith
 sound-with force mass l car h =
     let most = cycles-most l h in
@@ -123,7 +127,7 @@ sound-with force mass l car h =
       full-within = car .full-most;
     }
 
-sound-by : (f : CarFound) (l : ℕ) (k : Figures) → IsCar f → LengthFits l → figuresBy f l ≡ Given k → Sound k
+sound-by : (f : CarFound) (l : ℕ) (k : Figures) → IsCar f → l ≤ greatestLength → figuresBy f l ≡ Given k → Sound k
 unfolding figuresBy
 sound-by NoClass l k car h e = let z : _≡_ {A = ℕ} 0 1 = cc in absurd (omega arith)
 sound-by (Rated force mass) l k car h e = let q : figuresWith force mass l ≡ k = cc in subst Sound q (sound-with force mass l car h)
@@ -132,5 +136,5 @@ sound-by (Rated force mass) l k car h e = let q : figuresWith force mass l ≡ k
 pub given-sound : (load l : ℕ) (k : Figures) → figuresOf load l ≡ Given k → Sound k
 given-sound load l k e =
     by-test (lengthInRange l)
-    (λ t. sound-by (carOf load) l k (is-car load) (length-fits l t) (sym (figures-in load l t) ∙ e))
+    (λ t. sound-by (carOf load) l k (is-car load) (length-within l t) (sym (figures-in load l t) ∙ e))
     (λ t. let z : _≡_ {A = ℕ} 0 1 = cc (figures-out load l t) in absurd (omega arith))

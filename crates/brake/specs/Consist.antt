@@ -59,16 +59,12 @@ abbrev pub answerTo : FiguresFound → ℕ
 answerTo (Given k) = 0
 answerTo NoFigures = 4
 
--- What the code may take for granted of a length that passed its test, and of figures that `figuresOf` gave (proofs/Consist:
--- length-fits, given-sound). Document 01 has no such words. They stand in `requires` clauses, so that no sum overflows and
--- no quotient is by 0.
-abbrev pub LengthFits : ℕ → Type 0
-LengthFits l = l ≤ greatestLength
-
 -- full brake of class 2, the highest of the three
 abbrev pub greatestFull : ℕ
 greatestFull = 162039
 
+-- What code that computes with figures may take for granted: `figuresOf` gives no others (proofs/Consist: given-sound).
+-- Document 01 has no such word. It stands in `requires` clauses, so that no sum overflows and the brake grows.
 pub record Sound (k : Figures) : Type 0 where
   pub growth-positive : 1 ≤ k .growth
   pub growth-within : k .growth ≤ k .full

@@ -1,6 +1,6 @@
 // The brake figures of a consist: document 01, "Line and consist".
 ghost use mathlib.Core.Path.{_≡_};
-ghost use Rattle.brake.specs.Consist.{LengthFits, lengthInRange, carOf, applicationTime, brakeCycles, figuresOf};
+ghost use Rattle.brake.specs.Consist.{lengthInRange, carOf, applicationTime, brakeCycles, figuresOf};
 
 // Full brake B and growth j: the speed that one cycle takes off, and what the next cycle takes off on top, in µm/s.
 pub struct Figures {
@@ -14,6 +14,7 @@ pub enum CarFound {
     NoClass,
 }
 
+// The figures of a consist, or none: answer 4.
 pub enum FiguresFound {
     Given(Figures),
     NoFigures,
@@ -41,23 +42,22 @@ pub fn car_of(load: u64) -> CarFound
     }
 }
 
-// Application time in nanoseconds of a length in feet.
-fn application_time(length: u64) -> u64
-    requires { ⌜ LengthFits length ⌝ }
+// Application time in nanoseconds of a length in feet. No length of 16 bits overflows.
+fn application_time(length: u16) -> u64
     ensures { λ r. ⌜ r ≡ applicationTime length ⌝ }
 {
-    12220000000 + 15600000 * length + 278 * (length * length)
+    let l = length as u64;
+    12220000000 + 15600000 * l + 278 * (l * l)
 }
 
 // Cycles until the brake is full, rounded up: a cycle of 100 ms that the brake still grows in counts whole.
-fn brake_cycles(length: u64) -> u64
-    requires { ⌜ LengthFits length ⌝ }
+fn brake_cycles(length: u16) -> u64
     ensures { λ r. ⌜ r ≡ brakeCycles length ⌝ }
 {
     (application_time(length) + 99999999) / 100000000
 }
 
-// The figures that a train enters with, or none for a load class or a length out of range (answer 4).
+// The figures that a train enters with, or none for a load class or a length out of range.
 pub fn figures_of(load: u64, length: u64) -> FiguresFound
     ensures { λ r. ⌜ r ≡ figuresOf load length ⌝ }
 {
@@ -66,8 +66,9 @@ pub fn figures_of(load: u64, length: u64) -> FiguresFound
     }
     match car_of(load) {
         CarFound::Rated(force, mass) => {
+            // Standard gravity, 9.80665 m/s², is 980,665 µm/s in a cycle.
             let full = force * 980665 / mass;
-            let cycles = brake_cycles(length);
+            let cycles = brake_cycles(length as u16);
             FiguresFound::Given(Figures {
                 full: full,
                 growth: full / cycles,

@@ -1,13 +1,13 @@
 -- The greatest number that passes a test: what it is, and how halving finds it.
 -- Assumes nothing.
 use Prim.Native.Nat.{ℕ, zero, suc, _+_, _-_, _/_, _≤_, _<_}
-use mathlib.Core.Bool.{Bool, true, false, true≢false}
+use mathlib.Core.Bool.{Bool, true, false}
 use mathlib.Core.Logic.{by-cases}
 use mathlib.Core.Path.{_≡_, refl, sym, _∙_, ap, subst}
 use native.Mathlib.Decide.{decLe, decLt}
 use native.Mathlib.Nat.{le-refl}
 use native.Mathlib.Omega.{arith}
-use Rattle.brake.proofs.Tests.{by-test}
+use Rattle.brake.proofs.Tests.{by-test, not-both}
 use Rattle.motion.specs.declared.Order.{Order}
 use Rattle.motion.specs.declared.Order.the-variants.{Drive, Brake}
 use Rattle.motion.specs.Orders.{greatest}
@@ -62,18 +62,15 @@ module _ (passes : ℕ → Bool) where
       (λ t. top (suc n) t)
       (λ f. subst (Chosen passes (suc n)) (sym (greatest-below n f)) (up n (greatest passes n) f (greatest-chosen n)))
 
-  not-both : (d : ℕ) → passes d ≡ true → passes d ≡ false → ⊥
-  not-both d t f = true≢false (sym t ∙ f)
-
   chosen-once : (n : ℕ) (o o′ : Order) → Chosen passes n o → Chosen passes n o′ → o ≡ o′
   chosen-once n (Drive c) (Drive d) g h =
       by-cases (decLt c d)
-      (λ less. absurd (not-both d (h .itself) (g .above d less (h .within))))
+      (λ less. absurd (not-both (h .itself) (g .above d less (h .within))))
       (λ le. by-cases (decLt d c)
-      (λ less. absurd (not-both c (g .itself) (h .above c less (g .within))))
+      (λ less. absurd (not-both (g .itself) (h .above c less (g .within))))
       (λ ge. let z : c ≡ d = omega arith in ap Drive z))
-  chosen-once n (Drive c) Brake g h = absurd (not-both c (g .itself) (h c (g .within)))
-  chosen-once n Brake (Drive d) g h = absurd (not-both d (h .itself) (g d (h .within)))
+  chosen-once n (Drive c) Brake g h = absurd (not-both (g .itself) (h c (g .within)))
+  chosen-once n Brake (Drive d) g h = absurd (not-both (h .itself) (g d (h .within)))
   chosen-once n Brake Brake g h = refl
 
   -- and nothing else is it
@@ -101,7 +98,7 @@ module _ (passes : ℕ → Bool) (closed : (c d : ℕ) → c ≤ d → passes d 
         ordered = g;
         within = omega arith;
         below = b .below;
-        above = λ d p q. by-test (passes d) (λ t. absurd (true≢false (sym (closed mid d p t) ∙ f))) (λ f. f);
+        above = λ d p q. by-test (passes d) (λ t. absurd (not-both (closed mid d p t) f)) (λ f. f);
       }
 
 -- where the two meet, the search is over

@@ -4,7 +4,7 @@ use native.Mathlib.Omega.{arith}
 use borrow.Author.Needs.{needs}
 use Rattle.brake.specs.Rounding.{ceilDiv}
 use Rattle.brake.specs.Consist.{applicationCycles, brakeCycles}
-use Rattle.brake.proofs.Consist.{time-most}
+use Rattle.brake.proofs.Consist.{time-fits}
 use Rattle.brake.proofs.brake_cycles.Statement.{statement}
 use Rattle.brake.proofs.brake_cycles.Tie as tie
 
@@ -12,7 +12,7 @@ application-time-requires : tie.Need-application-time-requires
 application-time-requires c κs = search needs
 
 add-result : tie.Need-add-result
-add-result c = omega (arith, c .application-time .ensures, time-most _ (c .before .pre))
+add-result c = omega (arith, c .application-time .ensures, time-fits (c .before .args .length) (omega arith))
 
 returns : tie.Need-returns
 unfolding brakeCycles applicationCycles ceilDiv

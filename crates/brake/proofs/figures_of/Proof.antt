@@ -7,7 +7,7 @@ use borrow.Author.Needs.{needs}
 use borrow.Author.Tests.{not-true, not-false}
 use Rattle.brake.specs.declared.CarFound.the-variants.{Rated}
 use Rattle.brake.specs.Consist.{lengthInRange, carOf, fullBrake, figuresWith}
-use Rattle.brake.proofs.Consist.{Car, length-fits, car-bounds, cycles-positive, figures-out, figures-none, figures-given}
+use Rattle.brake.proofs.Consist.{Car, length-within, car-bounds, cycles-positive, figures-out, figures-none, figures-given}
 use Rattle.brake.proofs.figures_of.Statement.{statement}
 use Rattle.brake.proofs.figures_of.Tie as tie
 
@@ -39,8 +39,11 @@ mul-full c = omega (arith, car (c .before) .force-within)
 div-full : tie.Need-div-full
 div-full c = car (c .before) .mass-positive
 
+cast-brake-cycles : tie.Need-cast-brake-cycles
+cast-brake-cycles c = omega (arith, length-within _ (in-range (c .before .before .before .before)))
+
 brake-cycles-requires : tie.Need-brake-cycles-requires
-brake-cycles-requires c κs = length-fits _ (in-range (c .before .before .before .before))
+brake-cycles-requires c κs = search needs
 
 div-t11 : tie.Need-div-t11
 div-t11 c = rw (c .brake-cycles .ensures) (cycles-positive _)
@@ -68,6 +71,7 @@ figures-of-spec =
     enum-known-force
     mul-full
     div-full
+    cast-brake-cycles
     brake-cycles-requires
     div-t11
     enum-told

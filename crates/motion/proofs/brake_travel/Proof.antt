@@ -1,6 +1,6 @@
 -- `motion::brake_travel` meets its contract.
 -- Assumes nothing.
-use Prim.Native.Nat.{ℕ, _*_, _≤_, _<_}
+use Prim.Native.Nat.{ℕ, _*_, _≤_}
 use mathlib.Core.Path.{sym}
 use native.Mathlib.Nat.{mul-le-mul}
 use native.Mathlib.Omega.{arith}
@@ -11,9 +11,9 @@ use Rattle.motion.proofs.Cycles.{travel-on, travel-last}
 use Rattle.motion.proofs.brake_travel.Statement.{statement}
 use Rattle.motion.proofs.brake_travel.Tie as tie
 
--- only a speed below the level is squared
-square : (v b : ℕ) → v < b → b ≤ greatestFull → v * v ≤ greatestFull * greatestFull
-square v b below within = let h : v ≤ greatestFull = omega arith in mul-le-mul h h
+-- only a speed within the level is squared
+square : (v b : ℕ) → v ≤ b → b ≤ greatestFull → v * v ≤ greatestFull * greatestFull
+square v b slow within = let h : v ≤ greatestFull = omega arith in mul-le-mul h h
 
 mul-result : tie.Need-mul-result
 mul-result c = search needs
@@ -22,23 +22,23 @@ sub-result : tie.Need-sub-result
 sub-result c = search needs
 
 returns : tie.Need-returns
-returns c = sym (travel-on _ _ _ (c .if1 .taken))
+returns c = sym (travel-on _ _ _ (omega arith))
 
 mul-result-2 : tie.Need-mul-result-2
-mul-result-2 c = omega (arith, square _ _ (c .if1 .left) (omega arith))
+mul-result-2 c = omega (arith, square (c .before .args .v) (c .before .args .b) (omega arith) (omega arith))
 
 sub-result-2 : tie.Need-sub-result-2
 sub-result-2 c = search needs
 
 add-result : tie.Need-add-result
-add-result c = omega (arith, square _ _ (c .if1 .left) (omega arith))
+add-result c = omega (arith, square (c .before .args .v) (c .before .args .b) (omega arith) (omega arith))
 
 div-result : tie.Need-div-result
 div-result c = search needs
 
 returns-2 : tie.Need-returns-2
 unfolding ceilDiv
-returns-2 c = sym (travel-last _ _ _ (c .if1 .left))
+returns-2 c = sym (travel-last _ _ _ (omega arith))
 
 pub brake-travel-spec : {M : Type 1} → statement M
 brake-travel-spec =
