@@ -9,7 +9,7 @@ use Rattle.motion.specs.declared.Order.{Order}
 use Rattle.motion.specs.declared.Order.the-variants.{Drive, Brake}
 use Rattle.motion.specs.Motion.{brakeTravel, brakeSpeed, nextLevel, driveTravel, driveSpeed, enoughCycles, stoppingDistance}
 use Rattle.motion.specs.Orders.{orderCap, worstCase}
-use Rattle.motion.specs.Bounds.{greatestLineEnd, greatestCeiling, greatestTraction, Braking, Driving, Bounded}
+use Rattle.motion.specs.Bounds.{greatestLineEnd, greatestCeiling, greatestTraction, greatestSpeed, Braking, Driving, Bounded}
 use Rattle.motion.proofs.Cycles.{travel-le, speed-le, level-le}
 use Rattle.motion.proofs.Runs.{stop-le}
 
@@ -21,7 +21,7 @@ braking-on k v b h =
 
 -- no run is longer, and no stopping distance
 abbrev mostCycles : ℕ
-mostCycles = greatestCeiling + greatestTraction + 1
+mostCycles = greatestSpeed + greatestTraction + 1
 
 abbrev pub longestStop : ℕ
 longestStop = mostCycles * (mostCycles + 1)
@@ -45,7 +45,7 @@ driving h = record { figures = h .figures; speed = h .speed; cap = h .cap }
 
 -- a cycle takes the head no further
 abbrev pub longestCycle : ℕ
-longestCycle = 2 * greatestCeiling + greatestTraction
+longestCycle = 2 * greatestSpeed + greatestTraction
 
 pub drive-travel-fits : (k : Figures) (v c : ℕ) → Driving k v c → driveTravel k v c ≤ longestCycle
 unfolding driveTravel
@@ -79,6 +79,6 @@ pub bound-brake : (k : Figures) (ceiling level v : ℕ) → v ≤ speedBound k c
 unfolding speedBound
 bound-brake k ceiling level v h = le-trans (speed-le k v level) h
 
-pub bound-fits : (k : Figures) (ceiling level v : ℕ) → ceiling ≤ greatestCeiling → v ≤ speedBound k ceiling level → v ≤ greatestCeiling
+pub bound-fits : (k : Figures) (ceiling level v : ℕ) → ceiling ≤ greatestCeiling → v ≤ speedBound k ceiling level → v ≤ greatestSpeed
 unfolding speedBound
 bound-fits k ceiling level v h b = le-trans b h

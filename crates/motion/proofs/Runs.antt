@@ -19,8 +19,6 @@ pub fewer : (k : Figures) (v b : ℕ) → Sound k → stands k v b ≡ false →
 unfolding stands enoughCycles brakeSpeed nextLevel
 fewer k v b s e =
     let moving : ¬ (v ≡ 0) = eqb-false v 0 e in
-    let grows = s .growth-positive in
-    let full = s .growth-within in
     omega arith
 
 first-stands : (n : ℕ) (k : Figures) (v b : ℕ) → stands k v b ≡ true → firstCycles n k v b ≡ []

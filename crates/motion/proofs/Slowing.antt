@@ -16,43 +16,39 @@ use Rattle.motion.specs.declared.Motion.{Motion}
 use Rattle.motion.specs.declared.Order.the-variants.{Brake}
 use Rattle.motion.specs.Motion.{brakeSpeed, nextLevel, stands}
 use Rattle.motion.specs.Orders.{worstCase}
-use Rattle.motion.specs.Count.{cyclesToStand}
+use Rattle.motion.specs.Count.{cyclesToFull, cyclesToStand}
 use Rattle.motion.proofs.Bounds.{speedBound}
 use Rattle.motion.proofs.Domination.{NoWorse}
 
 -- what n braked cycles come to: the level has grown n times, and from full brake on each cycle has taken off B
 pub record Slowed (k : Figures) (ceiling n : ℕ) (m : Motion) : Type 0 where
   pub grown : min (n * k .growth) (k .full) ≤ m .level
-  pub slowed : m .speed ≤ ceiling - (n - ceilDiv (k .full) (k .growth)) * k .full
+  pub slowed : m .speed ≤ ceiling - (n - cyclesToFull k) * k .full
 
 pub slowed-start : (k : Figures) (ceiling : ℕ) (m : Motion) → m .speed ≤ speedBound k ceiling (m .level) → Slowed k ceiling 0 m
 unfolding speedBound
 slowed-start k ceiling m h =
-    let none : 0 - ceilDiv (k .full) (k .growth) ≡ 0 = omega arith in
+    let none : 0 - cyclesToFull k ≡ 0 = omega arith in
     record { grown = omega arith; slowed = rw none (omega arith) }
 
 -- one braked cycle more, or a report no worse than it
 pub slowed-brake : (k : Figures) (ceiling n : ℕ) (m m′ : Motion) → Sound k → Slowed k ceiling n m → NoWorse m′ (worstCase k m Brake) → Slowed k ceiling (suc n) m′
 unfolding brakeSpeed nextLevel
 slowed-brake k ceiling n m m′ s p h =
-    let grown = p .grown in
-    let slowed = p .slowed in
-    let speed = h .speed in
-    let level = h .level in
     record {
       grown = omega arith;
       slowed =
-          by-cases (decLe (ceilDiv (k .full) (k .growth)) n)
+          by-cases (decLe (cyclesToFull k) n)
           (λ built.
           let enough = ceil-ge (k .full) (s .growth-positive) in
           let r = mul-le-mul-right (k .growth) built in
           let full : k .full ≤ m .level = omega arith in
-          let one-more : suc n - ceilDiv (k .full) (k .growth) ≡ suc (n - ceilDiv (k .full) (k .growth)) = omega arith in
+          let one-more : suc n - cyclesToFull k ≡ suc (n - cyclesToFull k) = omega arith in
           rw one-more (omega arith))
           (λ building.
-          let none : n - ceilDiv (k .full) (k .growth) ≡ 0 = omega arith in
-          let still-none : suc n - ceilDiv (k .full) (k .growth) ≡ 0 = omega arith in
-          let start : m .speed ≤ ceiling - 0 * k .full = rw none at slowed in
+          let none : n - cyclesToFull k ≡ 0 = omega arith in
+          let still-none : suc n - cyclesToFull k ≡ 0 = omega arith in
+          let start : m .speed ≤ ceiling - 0 * k .full = rw none at (p .slowed) in
           rw still-none (omega arith));
     }
 
@@ -61,5 +57,5 @@ pub slowed-stands : (k : Figures) (ceiling n : ℕ) (m : Motion) → Sound k →
 unfolding cyclesToStand stands
 slowed-stands k ceiling n m s h p =
     let enough = ceil-ge ceiling {b = k .full} (omega arith) in
-    let r : ceilDiv ceiling (k .full) * k .full ≤ (n - ceilDiv (k .full) (k .growth)) * k .full = mul-le-mul-right (k .full) (omega arith) in
+    let r : ceilDiv ceiling (k .full) * k .full ≤ (n - cyclesToFull k) * k .full = mul-le-mul-right (k .full) (omega arith) in
     eq-eqb (m .speed) 0 (omega arith)

@@ -16,22 +16,26 @@ greatestCeiling = 40000000
 abbrev pub greatestTraction : ℕ
 greatestTraction = 100000
 
--- a train that brakes at speed v and level b; it may have gained a cap on top of the ceiling
+-- No report leaves a higher speed: on flat track the ceiling holds while braking too.
+abbrev pub greatestSpeed : ℕ
+greatestSpeed = greatestCeiling
+
+-- a train that brakes at speed v and level b; it may have gained a cap on top
 pub record Braking (k : Figures) (v b : ℕ) : Type 0 where
   pub figures : Sound k
-  pub speed : v ≤ greatestCeiling + greatestTraction
+  pub speed : v ≤ greatestSpeed + greatestTraction
   pub level : b ≤ k .full
 
 -- a train that drives at speed v with cap c
 pub record Driving (k : Figures) (v c : ℕ) : Type 0 where
   pub figures : Sound k
-  pub speed : v ≤ greatestCeiling
+  pub speed : v ≤ greatestSpeed
   pub cap : c ≤ greatestTraction
 
 -- a train on some line, and a cap
 pub record Bounded (k : Figures) (m : Motion) (c : ℕ) : Type 0 where
   pub figures : Sound k
   pub head : m .head ≤ greatestLineEnd
-  pub speed : m .speed ≤ greatestCeiling
+  pub speed : m .speed ≤ greatestSpeed
   pub level : m .level ≤ k .full
   pub cap : c ≤ greatestTraction
