@@ -20,6 +20,11 @@ greatestTraction = 100000
 abbrev pub greatestSpeed : ℕ
 greatestSpeed = greatestCeiling
 
+-- a level that the brake can have
+pub record Level (k : Figures) (b : ℕ) : Type 0 where
+  pub figures : Sound k
+  pub level : b ≤ k .full
+
 -- a train that brakes at speed v and level b; it may have gained a cap on top
 pub record Braking (k : Figures) (v b : ℕ) : Type 0 where
   pub figures : Sound k

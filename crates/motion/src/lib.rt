@@ -1,10 +1,8 @@
 // Worst-case motion and the order of one train: document 01, "Worst-case motion" and "Orders".
 ghost use mathlib.Core.Path.{_≡_};
-ghost use Prim.Native.Nat.{_≤_};
-ghost use Rattle.brake.specs.Consist.{Sound};
 ghost use Rattle.motion.specs.Motion.{brakeTravel, brakeSpeed, nextLevel, driveTravel, driveSpeed, stands, stoppingDistance};
 ghost use Rattle.motion.specs.Orders.{orderCap, worstCase, reach, capFits, orderFor};
-ghost use Rattle.motion.specs.Bounds.{Braking, Driving, Bounded};
+ghost use Rattle.motion.specs.Bounds.{Level, Braking, Driving, Bounded};
 use brake::Figures;
 
 // An order: drive with a cap on the traction, or brake.
@@ -50,7 +48,7 @@ fn brake_speed(k: Figures, v: u64, b: u64) -> u64
 
 // Level after a braked cycle at level b: it grows by j, up to B.
 fn next_level(k: Figures, b: u64) -> u64
-    requires { ⌜ Sound k × (b ≤ k .full) ⌝ }
+    requires { ⌜ Level k b ⌝ }
     ensures { λ r. ⌜ r ≡ nextLevel k b ⌝ }
 {
     let full = k.full;

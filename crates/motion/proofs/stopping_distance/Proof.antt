@@ -61,7 +61,7 @@ brake-speed-requires : tie.Need-brake-speed-requires Inv-loop μ-loop
 brake-speed-requires c κs = braked (c .before)
 
 next-level-requires : tie.Need-next-level-requires Inv-loop μ-loop
-next-level-requires c κs = let b = braked (c .before .before) in (b .figures, b .level)
+next-level-requires c κs = let b = braked (c .before .before) in record { figures = b .figures; level = b .level }
 
 loop-less : tie.Need-loop-less Inv-loop μ-loop
 loop-less c =
