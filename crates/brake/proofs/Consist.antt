@@ -138,3 +138,9 @@ given-sound load l k e =
     by-test (lengthInRange l)
     (λ t. sound-by (carOf load) l k (is-car load) (length-within l t) (sym (figures-in load l t) ∙ e))
     (λ t. let z : _≡_ {A = ℕ} 0 1 = cc (figures-out load l t) in absurd (omega arith))
+
+pub given-length : (load l : ℕ) (k : Figures) → figuresOf load l ≡ Given k → l ≤ greatestLength
+given-length load l k e =
+    by-test (lengthInRange l)
+    (λ t. length-within l t)
+    (λ t. let z : _≡_ {A = ℕ} 0 1 = cc (figures-out load l t) in absurd (omega arith))

@@ -1,15 +1,21 @@
 -- Bounds that braking and driving keep, and the sums that fit by them.
 -- Assumes nothing.
 use Prim.Native.Nat.{ℕ, _+_, _*_, _≤_}
+use mathlib.Core.Bool.{true, false}
+use mathlib.Core.Path.{_≡_, _∙_}
 use native.Mathlib.Nat.{mul-le-mul, le-trans}
 use native.Mathlib.Omega.{arith}
+use lib.Dec.{leb}
+use borrow.Author.Tests.{le-leb, leb-true}
 use Rattle.brake.specs.declared.Figures.{Figures}
+use Rattle.brake.specs.Consist.{Sound, greatestFull}
+use Rattle.brake.proofs.Tests.{by-test, both}
 use Rattle.motion.specs.declared.Motion.{Motion}
 use Rattle.motion.specs.declared.Order.{Order}
 use Rattle.motion.specs.declared.Order.the-variants.{Drive, Brake}
 use Rattle.motion.specs.Motion.{brakeTravel, brakeSpeed, nextLevel, driveTravel, driveSpeed, enoughCycles, stoppingDistance}
 use Rattle.motion.specs.Orders.{orderCap, worstCase}
-use Rattle.motion.specs.Bounds.{greatestLineEnd, greatestCeiling, greatestTraction, greatestSpeed, Braking, Driving, Bounded}
+use Rattle.motion.specs.Bounds.{greatestLineEnd, greatestCeiling, greatestTraction, greatestSpeed, Braking, Driving, Bounded, inBounds}
 use Rattle.motion.proofs.Cycles.{travel-le, speed-le, level-le}
 use Rattle.motion.proofs.Runs.{stop-le}
 
@@ -32,10 +38,49 @@ stop-fits k v b h =
     let few : enoughCycles k v b ≤ mostCycles = omega arith in
     le-trans (stop-le k v b (h .figures)) (mul-le-mul {m₂ = mostCycles + 1} few (omega arith))
 
--- ---- a bounded train under an order
+-- ---- the test
 
 pub bounded-cap : {k : Figures} {m : Motion} {c d : ℕ} → Bounded k m c → d ≤ c → Bounded k m d
 bounded-cap h g = record { figures = h .figures; head = h .head; speed = h .speed; level = h .level; cap = omega arith }
+
+-- what the test has found, and the converse
+pub bounds-tested : (k : Figures) (m : Motion) (c : ℕ) → inBounds k m c ≡ true → Bounded k m c
+unfolding inBounds
+bounds-tested k m c e =
+    let six = both _ (leb c greatestTraction) e in
+    let five = both _ (leb (m .speed) greatestSpeed) (six .0) in
+    let four = both _ (leb (m .head) greatestLineEnd) (five .0) in
+    let three = both _ (leb (m .level) (k .full)) (four .0) in
+    let two = both _ (leb (k .full) greatestFull) (three .0) in
+    let one = both (leb 1 (k .growth)) (leb (k .growth) (k .full)) (two .0) in
+    record {
+      figures = record { growth-positive = leb-true _ _ (one .0); growth-within = leb-true _ _ (one .1); full-within = leb-true _ _ (two .1) };
+      head = leb-true _ _ (four .1);
+      speed = leb-true _ _ (five .1);
+      level = leb-true _ _ (three .1);
+      cap = leb-true _ _ (six .1);
+    }
+
+-- all but the cap is within: the cap decides
+pub bounds-cap : (k : Figures) (m : Motion) (c : ℕ) → Bounded k m 0 → inBounds k m c ≡ leb c greatestTraction
+unfolding inBounds
+bounds-cap k m c b =
+    rw (
+      le-leb 1 (k .growth) (b .figures .growth-positive),
+      le-leb (k .growth) (k .full) (b .figures .growth-within),
+      le-leb (k .full) greatestFull (b .figures .full-within),
+      le-leb (m .level) (k .full) (b .level),
+      le-leb (m .head) greatestLineEnd (b .head),
+      le-leb (m .speed) greatestSpeed (b .speed),
+    )
+
+pub bounds-hold : (k : Figures) (m : Motion) (c : ℕ) → Bounded k m c → inBounds k m c ≡ true
+bounds-hold k m c b = bounds-cap k m c (bounded-cap b (omega arith)) ∙ le-leb c greatestTraction (b .cap)
+
+pub bounds-fail : (k : Figures) (m : Motion) (c : ℕ) → (Bounded k m c → ⊥) → inBounds k m c ≡ false
+bounds-fail k m c out = by-test (inBounds k m c) (λ t. absurd (out (bounds-tested k m c t))) (λ f. f)
+
+-- ---- a bounded train under an order
 
 pub braking : {k : Figures} {m : Motion} {c : ℕ} → Bounded k m c → Braking k (m .speed) (m .level)
 braking h = record { figures = h .figures; speed = omega arith; level = h .level }

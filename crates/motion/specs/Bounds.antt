@@ -2,8 +2,10 @@
 -- stand in `requires` clauses. Nobody outside passes figures, levels or speeds, and every report keeps these bounds
 -- (proofs/Orders: within-report, within-bounded).
 use Prim.Native.Nat.{ℕ, _+_, _≤_}
+use mathlib.Core.Bool.{Bool, _&&_}
+use lib.Dec.{leb}
 use Rattle.brake.specs.declared.Figures.{Figures}
-use Rattle.brake.specs.Consist.{Sound}
+use Rattle.brake.specs.Consist.{Sound, greatestFull}
 use Rattle.motion.specs.declared.Motion.{Motion}
 
 -- upper ends of three ranges: line end, speed ceiling V and greatest traction A
@@ -44,3 +46,9 @@ pub record Bounded (k : Figures) (m : Motion) (c : ℕ) : Type 0 where
   pub speed : m .speed ≤ greatestSpeed
   pub level : m .level ≤ k .full
   pub cap : c ≤ greatestTraction
+
+-- the same as a test, for a record of which nothing is known (proofs/Bounds: bounded, in-bounds)
+unfoldable pub inBounds : Figures → Motion → ℕ → Bool
+inBounds k m c =
+    leb 1 (k .growth) && leb (k .growth) (k .full) && leb (k .full) greatestFull && leb (m .level) (k .full)
+    && leb (m .head) greatestLineEnd && leb (m .speed) greatestSpeed && leb c greatestTraction

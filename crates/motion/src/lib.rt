@@ -2,7 +2,7 @@
 ghost use mathlib.Core.Path.{_≡_};
 ghost use Rattle.motion.specs.Motion.{brakeTravel, brakeSpeed, nextLevel, driveTravel, driveSpeed, stands, stoppingDistance};
 ghost use Rattle.motion.specs.Orders.{orderCap, worstCase, reach, capFits, orderFor};
-ghost use Rattle.motion.specs.Bounds.{Level, Braking, Driving, Bounded};
+ghost use Rattle.motion.specs.Bounds.{Level, Braking, Driving, Bounded, inBounds};
 use brake::Figures;
 
 // An order: drive with a cap on the traction, or brake.
@@ -22,6 +22,33 @@ pub struct Motion {
 pub struct Limits {
     pub ceiling: u64,
     pub traction: u64,
+}
+
+// Whether a train with these figures and this motion, and a cap, are within the bounds that the functions below require.
+pub fn in_bounds(k: Figures, m: Motion, c: u64) -> bool
+    ensures { λ r. ⌜ r ≡ inBounds k m c ⌝ }
+{
+    let full = k.full;
+    let growth = k.growth;
+    if growth < 1 {
+        return false;
+    }
+    if full < growth {
+        return false;
+    }
+    if 162039 < full {
+        return false;
+    }
+    if full < m.level {
+        return false;
+    }
+    if 2000000000000 < m.head {
+        return false;
+    }
+    if 40000000 < m.speed {
+        return false;
+    }
+    c <= 100000
 }
 
 // Travel in a braked cycle at speed v and level b. The last cycle is rounded up: never shorter than the train rolls.

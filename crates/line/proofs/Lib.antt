@@ -1,0 +1,5 @@
+pub mod Ranges
+pub mod Places
+pub mod Limit
+pub mod Records
+pub mod Steps

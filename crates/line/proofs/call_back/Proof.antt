@@ -1,0 +1,85 @@
+-- `line::call_back` meets its contract.
+-- Assumes nothing.
+use Prim.Native.Nat.{_<_}
+use mathlib.Core.Path.{_≡_, sym, _∙_}
+use lib.ListN.{length}
+use borrow.Author.Tests.{not-true, not-false}
+use Rattle.line.specs.declared.Found.the-variants.{At}
+use Rattle.line.specs.Table.{findOf}
+use Rattle.line.proofs.Places.{long, found-place}
+use Rattle.line.proofs.Steps.{own-unknown, call-back-refused, call-back-taken}
+use borrow.Author.Needs.{needs}
+use Rattle.line.proofs.call_back.Statement.{statement}
+use Rattle.line.proofs.call_back.Tie as tie
+
+find-requires : tie.Need-find-requires
+find-requires c κs = search needs
+
+enum-known-i : tie.Need-enum-known-i
+enum-known-i c = search needs
+
+enum-told : tie.Need-enum-told
+enum-told c = search needs
+
+refuse-requires : tie.Need-refuse-requires
+refuse-requires c κs = search needs
+
+returns : tie.Need-returns
+returns c = c .refuse .ensures ∙ sym (own-unknown _ _ _ (sym (c .before .before .before .find .ensures) ∙ c .before .enum-told .given .1))
+
+-- the train was found
+found : (c : tie.After-i) → let a = c .before .before .before .args in findOf (a .t) (a .id) ≡ At (c .i .given .0 .0)
+found c = sym (c .before .before .find .ensures) ∙ c .i .given .1
+
+-- at one of the places
+place : (c : tie.After-i) → let a = c .before .before .before .args in (c .i .given .0 .0 < a .t .count) × (c .i .given .0 .0 < 32)
+place c =
+    let a = c .before .before .before .args in
+    let size : length (a .t .trains) ≡ 32 = search (needs, long) in
+    found-place (a .t) (a .id) _ size (found c)
+
+train-at-requires : tie.Need-train-at-requires
+train-at-requires c κs = search needs
+
+call-back-allowed-requires : tie.Need-call-back-allowed-requires
+call-back-allowed-requires c κs = search needs
+
+refuse-requires-2 : tie.Need-refuse-requires-2
+refuse-requires-2 c κs = search needs
+
+returns-2 : tie.Need-returns-2
+returns-2 c =
+    let test = c .before in
+    let x = test .before .before in
+    c .refuse2 .ensures
+    ∙ sym (call-back-refused _ _ _ _ (found (x .before .before)) (x .train-at .ensures) _ (sym (test .before .call-back-allowed .ensures) ∙ not-true _ (test .if1 .taken)))
+
+with-authority-requires : tie.Need-with-authority-requires
+with-authority-requires c κs = search needs
+
+with-train-requires : tie.Need-with-train-requires
+with-train-requires c κs = place (c .before .before .before .before .before) .1
+
+returns-3 : tie.Need-returns-3
+returns-3 c =
+    let test = c .before .before in
+    let x = test .before .before in
+    rw (c .with-train .ensures, c .before .with-authority .ensures)
+    (sym (call-back-taken _ _ _ _ (found (x .before .before)) (x .train-at .ensures) _ (sym (test .before .call-back-allowed .ensures) ∙ not-false _ (test .if1 .left))))
+
+pub call-back-spec : {M : Type 1} → statement M
+call-back-spec =
+    tie.close
+    (tie.spec
+    find-requires
+    enum-known-i
+    enum-told
+    refuse-requires
+    returns
+    train-at-requires
+    call-back-allowed-requires
+    refuse-requires-2
+    returns-2
+    with-authority-requires
+    with-train-requires
+    returns-3)

@@ -1,0 +1,109 @@
+-- `line::enter_with` meets its contract.
+-- Assumes nothing.
+use mathlib.Core.Path.{_≡_, sym, _∙_}
+use native.Mathlib.Omega.{arith}
+use borrow.Author.Tests.{not-true, not-false}
+use mathlib.Core.Path.{refl, ap}
+use Prim.Native.Nat.{ℕ, _+_}
+use Rattle.line.specs.declared.Found.the-variants.{Nothing}
+use Rattle.line.specs.Table.{findOf, aheadOf}
+use Rattle.line.specs.Calls.{withinLimit}
+use Rattle.line.proofs.Steps.{enter-known, enter-full, enter-short, enter-beyond, enter-taken}
+use borrow.Author.Needs.{needs}
+use Rattle.line.proofs.enter_with.Statement.{statement}
+use Rattle.line.proofs.enter_with.Tie as tie
+
+find-requires : tie.Need-find-requires
+find-requires c κs = search needs
+
+enum-told : tie.Need-enum-told
+enum-told c = search needs
+
+refuse-requires : tie.Need-refuse-requires
+refuse-requires c κs = search needs
+
+enum-told-2 : tie.Need-enum-told-2
+enum-told-2 c = search needs
+
+refuse-requires-2 : tie.Need-refuse-requires-2
+refuse-requires-2 c κs = search needs
+
+-- the id is not on the line
+absent : (c : tie.After-enum-told2) → let a = c .before .before .before .args in findOf (a .t) (a .id) ≡ Nothing
+absent c = sym (c .before .before .find .ensures) ∙ c .enum-told2 .given .1
+
+returns : tie.Need-returns
+returns c =
+    let none = c .before .before in
+    c .refuse2 .ensures ∙ sym (enter-full _ _ _ _ _ _ (none .before .before .before .pre) (absent none) (omega arith))
+
+steps-of-requires : tie.Need-steps-of-requires
+steps-of-requires c κs = search needs
+
+refuse-requires-3 : tie.Need-refuse-requires-3
+refuse-requires-3 c κs = search needs
+
+returns-2 : tie.Need-returns-2
+returns-2 c =
+    let none = c .before .before .before .before in
+    c .refuse3 .ensures ∙ sym (enter-short _ _ _ _ _ _ (none .before .before .before .pre) (absent none) (omega arith) (omega arith))
+
+within-limit-requires : tie.Need-within-limit-requires
+within-limit-requires c κs = search needs
+
+refuse-requires-4 : tie.Need-refuse-requires-4
+refuse-requires-4 c κs = search needs
+
+-- the limit is tested at the head itself
+at-head : (c : tie.After-within-limit) → let a = c .before .before .before .before .before .before .before .args in
+    withinLimit (a .t .settings) (aheadOf (a .t) (a .t .count)) (a .head) ≡ c .within-limit .result
+at-head c =
+    let a = c .before .before .before .before .before .before .before .args in
+    let same : a .head ≡ a .head + 0 = omega arith in
+    ap (λ (place : ℕ). withinLimit (a .t .settings) (aheadOf (a .t) (a .t .count)) place) same ∙ sym (c .within-limit .ensures .0)
+
+returns-3 : tie.Need-returns-3
+returns-3 c =
+    let none = c .before .before .before .before .before .before in
+    c .refuse4 .ensures
+    ∙ sym (enter-beyond _ _ _ _ _ _ (none .before .before .before .pre) (absent none) (omega arith) (omega arith)
+    (at-head (c .before .before) ∙ not-true _ (c .before .if3 .taken)))
+
+new-train-requires : tie.Need-new-train-requires
+new-train-requires c κs = search needs
+
+with-last-requires : tie.Need-with-last-requires
+with-last-requires c κs = omega arith
+
+returns-4 : tie.Need-returns-4
+returns-4 c =
+    let start = c .before .before .before .before in
+    c .refuse .ensures ∙ sym (enter-known _ _ _ _ _ _ _ (start .pre) (sym (c .before .before .before .find .ensures) ∙ c .before .enum-told .given .1))
+
+returns-5 : tie.Need-returns-5
+returns-5 c =
+    let test = c .before .before in
+    let none = test .before .before .before .before .before in
+    rw (c .with-last .ensures, c .before .new-train .ensures)
+    (sym (enter-taken _ _ _ _ _ _ (none .before .before .before .pre) (absent none) (omega arith) (omega arith) (at-head (test .before) ∙ not-false _ (test .if3 .left))))
+
+pub enter-with-spec : {M : Type 1} → statement M
+enter-with-spec =
+    tie.close
+    (tie.spec
+    find-requires
+    enum-told
+    refuse-requires
+    enum-told-2
+    refuse-requires-2
+    returns
+    steps-of-requires
+    refuse-requires-3
+    returns-2
+    within-limit-requires
+    refuse-requires-4
+    returns-3
+    new-train-requires
+    with-last-requires
+    returns-4
+    returns-5)

@@ -1,0 +1,7 @@
+pub mod Ranges
+pub mod Table
+pub mod Report
+pub mod Calls
+pub mod Answers
+pub mod Checks
+pub mod Step

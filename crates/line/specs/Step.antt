@@ -1,0 +1,76 @@
+-- One call: its answer and the table after it, for every table and every number.
+use Prim.Native.Nat.{ℕ}
+use mathlib.Core.Bool.{cond}
+use mathlib.Core.Option.{Option, none, some}
+use Rattle.brake.specs.declared.FiguresFound.{FiguresFound}
+use Rattle.brake.specs.declared.FiguresFound.the-variants.{Given, NoFigures}
+use Rattle.brake.specs.Consist.{figuresOf}
+use Rattle.line.specs.declared.Settings.{Settings}
+use Rattle.line.specs.declared.Train.{Train}
+use Rattle.line.specs.declared.Table.{Table}
+use Rattle.line.specs.declared.Found.{Found}
+use Rattle.line.specs.declared.Found.the-variants.{At, Nothing}
+use Rattle.line.specs.declared.Act.{Act}
+use Rattle.line.specs.declared.Act.the-variants.{Report, Extend, CallBack, Hold, Lift}
+use Rattle.line.specs.declared.Call.{Call}
+use Rattle.line.specs.declared.Call.the-variants.{Enter, Own, TakeOff}
+use Rattle.line.specs.declared.Refusal.{Refusal}
+use Rattle.line.specs.declared.Refusal.the-variants.{BadSetting, BadEntry, NoTrain}
+use Rattle.line.specs.declared.Answer.{Answer}
+use Rattle.line.specs.declared.Answer.the-variants.{Entered, Ordered, Extended, Done, Refused}
+use Rattle.line.specs.declared.Outcome.{Outcome}
+use Rattle.line.specs.Ranges.{settingsInRange}
+use Rattle.line.specs.Table.{emptyTable, findOf, trainAt, aheadOf, withTrain, withLast, withoutFirst}
+use Rattle.line.specs.Report.{reachOf}
+use Rattle.line.specs.Calls.{entering, isRepeat, acted}
+use Rattle.line.specs.Checks.{firstOf, enterChecks, actChecks, takeOffChecks}
+
+abbrev pub outcome : Answer → Table → Outcome
+outcome a t = record { answer = a; table = t }
+
+-- A refusal gives its number and zeros; the whole table stays.
+abbrev pub refused : Table → Refusal → Outcome
+refused t r = outcome (Refused r) t
+
+abbrev pub judged : Table → Option Refusal → Outcome → Outcome
+judged t none accepted = accepted
+judged t (some r) accepted = refused t r
+
+-- Open: a new table with these settings and no train. Refused, it makes no table: zeros stand for one.
+abbrev pub noSettings : Settings
+noSettings = record { end = 0; safety = 0; limits = record { ceiling = 0; traction = 0 } }
+
+unfoldable pub openStep : Settings → Outcome
+openStep σ = cond (settingsInRange σ) (outcome Done (emptyTable σ)) (refused (emptyTable noSettings) BadSetting)
+
+-- Enter
+unfoldable pub enterStep : Table → ℕ → ℕ → ℕ → ℕ → FiguresFound → Outcome
+enterStep t id h l s NoFigures = refused t BadEntry
+enterStep t id h l s (Given k) =
+    judged t (firstOf (enterChecks t id h l s)) (outcome (Entered (k .full) (k .growth) h) (withLast t (entering id h l k s)))
+
+-- Report, extend, call back, hold, lift: what the train x answers once its record is y
+abbrev pub actAnswer : Act → Train → Train → Answer
+actAnswer (Report h v) x y = Ordered (y .order) (reachOf y)
+actAnswer (Extend n l) x y = Extended (y .end) (isRepeat x n)
+actAnswer (CallBack place) x y = Done
+actAnswer Hold x y = Done
+actAnswer Lift x y = Done
+
+unfoldable pub actStep : Table → ℕ → Train → Train → Act → Outcome
+actStep t i x y a =
+    judged t (firstOf (actChecks (t .settings) (aheadOf t i) x a)) (outcome (actAnswer a x y) (withTrain t i y))
+
+unfoldable pub ownStep : Table → Act → Found → Outcome
+ownStep t a Nothing = refused t NoTrain
+ownStep t a (At i) = actStep t i (trainAt t i) (acted (t .settings) a (trainAt t i)) a
+
+-- Take off
+unfoldable pub takeOffStep : Table → Found → Outcome
+takeOffStep t Nothing = refused t NoTrain
+takeOffStep t (At i) = judged t (firstOf (takeOffChecks i (trainAt t i))) (outcome Done (withoutFirst t))
+
+unfoldable pub step : Table → Call → Outcome
+step t (Enter id h l load s) = enterStep t id h l s (figuresOf load l)
+step t (Own id a) = ownStep t a (findOf t id)
+step t (TakeOff id) = takeOffStep t (findOf t id)
