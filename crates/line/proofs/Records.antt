@@ -52,10 +52,18 @@ report-passed σ x h v e =
     let inner = both (computable x) (allowed x h v) (outer .0) in
     record { computes = inner .0; allows = inner .1; bounded = bounds-tested _ _ _ (outer .1) }
 
--- an order that a report gives: brake, or what the rule gives against the goal
-pub may-order : (σ : Settings) (x : Train) (m : Motion) → MayOrder (x .figures) (σ .limits) (goalOf x) m (orderAfter σ x m)
+-- Held: brake.
+pub held-brakes : (σ : Settings) (x : Train) (m : Motion) → x .held ≡ true → orderAfter σ x m ≡ Brake
 unfolding orderAfter
-may-order σ x m = by-test (x .held) (λ e. inl (rw (e, orderAfter))) (λ e. inr (rw (e, orderAfter)))
+held-brakes σ x m e = rw (e, orderAfter)
+
+-- Otherwise: what the rule gives against the goal.
+pub free-order : (σ : Settings) (x : Train) (m : Motion) → x .held ≡ false → orderAfter σ x m ≡ orderFor (x .figures) (σ .limits) (goalOf x) m
+unfolding orderAfter
+free-order σ x m e = rw (e, orderAfter)
+
+pub may-order : (σ : Settings) (x : Train) (m : Motion) → MayOrder (x .figures) (σ .limits) (goalOf x) m (orderAfter σ x m)
+may-order σ x m = by-test (x .held) (λ e. inl (held-brakes σ x m e)) (λ e. inr (free-order σ x m e))
 
 cap-within : (σ : Settings) (x : Train) (m : Motion) (o : Order) → MayOrder (x .figures) (σ .limits) (goalOf x) m o → orderCap o ≤ σ .limits .traction
 cap-within σ x m (Drive c) order = ordered-cap (x .figures) (σ .limits) (goalOf x) m c order .within

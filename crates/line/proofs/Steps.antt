@@ -3,7 +3,7 @@
 use Prim.Native.Nat.{ℕ, _+_, _≤_, _<_}
 use mathlib.Core.Bool.{true, false, _&&_}
 use mathlib.Core.Path.{_≡_, refl, sym, ap, _∙_}
-use lib.Dec.{leb}
+use native.Mathlib.Omega.{arith}
 use lib.ListN.{set}
 use lib.Seq.{set-getD}
 use borrow.Author.Tests.{le-leb, lt-leb, eq-eqb, ne-eqb}
@@ -11,6 +11,8 @@ use Rattle.brake.specs.declared.Figures.{Figures}
 use Rattle.brake.specs.declared.FiguresFound.{FiguresFound}
 use Rattle.brake.specs.declared.FiguresFound.the-variants.{Given, NoFigures}
 use Rattle.brake.specs.Consist.{figuresOf}
+use Rattle.brake.proofs.Tests.{by-test}
+use Rattle.line.specs.declared.Settings.{Settings}
 use Rattle.line.specs.declared.Train.{Train}
 use Rattle.line.specs.declared.Table.{Table}
 use Rattle.line.specs.declared.Found.{Found}
@@ -18,14 +20,32 @@ use Rattle.line.specs.declared.Found.the-variants.{At, Nothing}
 use Rattle.line.specs.declared.Act.{Act}
 use Rattle.line.specs.declared.Act.the-variants.{Report, Extend, CallBack, Hold, Lift}
 use Rattle.line.specs.declared.Call.the-variants.{Enter, Own, TakeOff}
-use Rattle.line.specs.declared.Refusal.the-variants.{BadEntry, OnLine, LineFull, BadHead, NoTrain, NotAllowed, BadRequest, OldNumber, OtherLength, NoTrack, BadPlace, NotLeaving}
+use Rattle.line.specs.declared.Refusal.the-variants.{BadSetting, BadEntry, OnLine, LineFull, BadHead, NoTrain, NotAllowed, BadRequest, OldNumber, OtherLength, NoTrack, BadPlace, NotLeaving}
 use Rattle.line.specs.declared.Answer.the-variants.{Entered, Ordered, Extended, Done}
-use Rattle.line.specs.Ranges.{idInRange, startInRange, requestInRange}
-use Rattle.line.specs.Table.{blankTrain, places, findOf, trainAt, aheadOf, withTrain, withLast, withoutFirst}
+use Rattle.line.specs.declared.Outcome.{Outcome}
+use Rattle.line.specs.Ranges.{settingsInRange, idInRange, startInRange, requestInRange}
+use Rattle.line.specs.Table.{blankTrain, places, emptyTable, findOf, trainAt, aheadOf, withTrain, withLast, withoutFirst}
 use Rattle.line.specs.Report.{reachOf, reported, reportAllowed}
 use Rattle.line.specs.Calls.{stepsOf, withinLimit, entering, authorised, isRepeat, extended, isOld, calledBack, callBackAllowed, marked, acted, mayLeave}
 use Rattle.line.specs.Checks.{firstOf, isFound}
-use Rattle.line.specs.Step.{outcome, refused, enterStep, actStep, ownStep, takeOffStep, step}
+use Rattle.line.specs.Step.{outcome, refused, noSettings, openStep, enterStep, actStep, ownStep, takeOffStep, step}
+
+-- ---- open
+
+pub open-taken : (σ : Settings) → settingsInRange σ ≡ true → openStep σ ≡ outcome Done (emptyTable σ)
+unfolding openStep
+open-taken σ e = rw (e, openStep)
+
+pub open-refused : (σ : Settings) → settingsInRange σ ≡ false → openStep σ ≡ refused (emptyTable noSettings) BadSetting
+unfolding openStep
+open-refused σ e = rw (e, openStep)
+
+-- what an accepted opening has passed, and made
+pub open-made : (σ : Settings) (t : Table) → openStep σ ≡ outcome Done t → (settingsInRange σ ≡ true) × (t ≡ emptyTable σ)
+open-made σ t opened =
+    by-test (settingsInRange σ)
+    (λ e. (e, ap (λ (o : Outcome). o .table) (sym opened ∙ open-taken σ e)))
+    (λ e. let z : _≡_ {A = ℕ} 0 1 = cc (ap (λ (o : Outcome). o .answer) (sym opened ∙ open-refused σ e)) in absurd (omega arith))
 
 -- ---- enter
 

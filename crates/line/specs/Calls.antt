@@ -1,5 +1,5 @@
 -- Document 01, "Authorities": limit, and what each call does to a train record.
-use Prim.Native.Nat.{ℕ, _+_, _-_, _*_}
+use Prim.Native.Nat.{ℕ, _+_, _*_}
 use mathlib.Core.Bool.{Bool, true, false, cond, _&&_, _||_}
 use mathlib.Core.Option.{Option, none, some}
 use lib.Dec.{leb, ltb, eqb}
@@ -69,6 +69,7 @@ isOld x n = leb n (x .start) || ltb n (x .number)
 abbrev pub calledBack : Train → ℕ → Train
 calledBack x place = authorised x place (x .number) (x .asked)
 
+-- on a table that calls left this is the second test alone (safety/proofs/Bounds: call-back-judged)
 unfoldable pub callBackAllowed : Train → ℕ → Bool
 callBackAllowed x place = computable x && between (reachOf x) (x .end) place
 

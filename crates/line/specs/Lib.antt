@@ -5,3 +5,4 @@ pub mod Calls
 pub mod Answers
 pub mod Checks
 pub mod Step
+pub mod Codes

@@ -10,6 +10,7 @@ ghost use Rattle.line.specs.Table.{blankTrain, emptyTable, findOf, train
 ghost use Rattle.line.specs.Report.{worstOf, reachOf, allowed, motionAfter, orderAfter, moved, reported, computable, reportAllowed};
 ghost use Rattle.line.specs.Calls.{stepsOf, withinLimit, entering, authorised, isOld, callBackAllowed, marked, mayLeave};
 ghost use Rattle.line.specs.Answers.{refusalNumber, numbersOf};
+ghost use Rattle.line.specs.Codes.{ifZero, callOf};
 ghost use Rattle.line.specs.Step.{refused, openStep, enterStep, step};
 use brake::Figures;
 use brake::FiguresFound;
@@ -102,6 +103,12 @@ pub struct Numbers {
     pub first: u64,
     pub second: u64,
     pub third: u64,
+}
+
+// A call in numbers, read: some numbers are no call.
+pub enum CallRead {
+    Read(Call),
+    Unreadable,
 }
 
 // The place of a train.
@@ -789,5 +796,42 @@ pub fn numbers_of(a: Answer) -> Numbers
             second: 0,
             third: 0,
         },
+    }
+}
+
+// ---- calls in numbers
+
+// Unused numbers are 0.
+fn if_zero(b: u64, c: u64, d: u64, e: u64, call: Call) -> CallRead
+    ensures { λ r. ⌜ r ≡ ifZero b c d e call ⌝ }
+{
+    if b != 0 {
+        return CallRead::Unreadable;
+    }
+    if c != 0 {
+        return CallRead::Unreadable;
+    }
+    if d != 0 {
+        return CallRead::Unreadable;
+    }
+    if e != 0 {
+        return CallRead::Unreadable;
+    }
+    CallRead::Read(call)
+}
+
+// The call with this code and these numbers. Open, code 1, is no call on a table.
+pub fn call_of(code: u64, a: u64, b: u64, c: u64, d: u64, e: u64) -> CallRead
+    ensures { λ r. ⌜ r ≡ callOf code a b c d e ⌝ }
+{
+    match code {
+        2 => CallRead::Read(Call::Enter(a, b, c, d, e)),
+        3 => if_zero(0, 0, d, e, Call::Own(a, Act::Report(b, c))),
+        4 => if_zero(0, 0, d, e, Call::Own(a, Act::Extend(b, c))),
+        5 => if_zero(0, c, d, e, Call::Own(a, Act::CallBack(b))),
+        6 => if_zero(b, c, d, e, Call::Own(a, Act::Hold)),
+        7 => if_zero(b, c, d, e, Call::Own(a, Act::Lift)),
+        8 => if_zero(b, c, d, e, Call::TakeOff(a)),
+        _ => CallRead::Unreadable,
     }
 }

@@ -8,7 +8,7 @@ use native.Mathlib.Omega.{arith}
 use lib.Dec.{leb}
 use borrow.Author.Tests.{le-leb, leb-true}
 use Rattle.brake.specs.declared.Figures.{Figures}
-use Rattle.brake.specs.Consist.{Sound, greatestFull}
+use Rattle.brake.specs.Consist.{greatestFull}
 use Rattle.brake.proofs.Tests.{by-test, both}
 use Rattle.motion.specs.declared.Motion.{Motion}
 use Rattle.motion.specs.declared.Order.{Order}

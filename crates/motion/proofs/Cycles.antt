@@ -3,7 +3,7 @@
 use Prim.Native.Nat.{ℕ, _-_, _*_, _≤_, _<_}
 use mathlib.Core.Bool.{true}
 use mathlib.Core.Logic.{by-cases}
-use mathlib.Core.Path.{_≡_}
+use mathlib.Core.Path.{_≡_, refl}
 use native.Mathlib.Decide.{decLe}
 use native.Mathlib.Nat.{mul-le-mul, mul-le-mul-left, le-trans}
 use native.Mathlib.Omega.{arith}
@@ -63,6 +63,11 @@ unfolding driveSpeed
 drive-speed-mono k h g = omega arith
 
 -- ---- standing
+
+-- without speed, under full brake, a train stands
+pub full-stands : (k : Figures) → stands k 0 (k .full) ≡ true
+unfolding stands
+full-stands k = refl
 
 -- whoever is no faster than a standing train stands
 pub stands-mono : (k : Figures) {v v′ : ℕ} (b : ℕ) → v ≤ v′ → stands k v′ b ≡ true → stands k v b ≡ true

@@ -1,0 +1,71 @@
+-- Demand 3: after every list of calls on the table that an accepted opening made, the claim holds and the table agrees with it.
+-- Assumes nothing.
+use Prim.Native.Nat.{ℕ, _-_, _≤_}
+use mathlib.Core.Option.{Option, none, some}
+use mathlib.Core.List.{List, [], _∷_}
+use mathlib.Core.Path.{_≡_, subst}
+use native.Mathlib.Omega.{arith}
+use Rattle.motion.proofs.Slowing.{slowed-stands}
+use Rattle.line.specs.declared.Settings.{Settings}
+use Rattle.line.specs.declared.Table.{Table}
+use Rattle.line.specs.declared.Call.{Call}
+use Rattle.line.specs.declared.Answer.the-variants.{Done}
+use Rattle.line.specs.Step.{outcome, openStep}
+use Rattle.safety.specs.History.{history, Stay, stays, headOf, rearOf, endOf, figuresFor, heldFor}
+use Rattle.safety.specs.Claim.{heldReports, Stands, Alone, Separate, Clear, Safe, Claim, recordOf, Demand3}
+use Rattle.safety.proofs.Train.{guarded-head}
+use Rattle.safety.proofs.Holding.{Slowing}
+use Rattle.safety.proofs.Line.{Steady, Lined}
+use Rattle.safety.proofs.Told.{told-count}
+use Rattle.safety.proofs.Calls.{told}
+
+module _ (σ : Settings) (ahead : Option Stay) (s : Stay) (t : Steady σ ahead s) where
+  head-end : headOf s ≤ endOf s
+  unfolding recordOf
+  head-end = guarded-head σ _ (recordOf s) (t .guarded)
+
+  held-stands : (n : ℕ) → heldFor (s .deeds) ≡ some n → heldReports σ s ≤ n → Stands s
+  unfolding recordOf
+  held-stands n e enough =
+      let slowing = subst (Slowing σ (recordOf s)) e (t .slowing) in
+      slowed-stands (figuresFor s) (σ .limits .ceiling) (n - 1) (recordOf s .motion) (t .guarded .figures) (omega arith) (slowing (omega arith) .1)
+
+  alone : Alone σ s
+  unfolding recordOf
+  alone = record { rear-on-line = t .guarded .rear-on-line; head-within-end = head-end; held-stands = held-stands }
+
+separate : (σ : Settings) (ahead : Option Stay) (s : Stay) → Steady σ ahead s → Separate σ ahead s
+unfolding recordOf rearOf
+separate σ none s t = t .guarded .end-in-limit
+separate σ (some a) s t = let limit = t .guarded .end-in-limit in omega arith
+
+rear-head : (s : Stay) → rearOf s ≤ headOf s
+unfolding rearOf
+rear-head s = omega arith
+
+-- those behind a have their heads at or before the rear of p, if a has its rear there
+clear : (σ : Settings) (p a : Stay) (ss : List Stay) → rearOf a ≤ rearOf p → Lined σ (some a) ss → Clear p ss
+clear σ p a [] h l = tt
+clear σ p a (s ∷ ss) h l =
+    let apart = separate σ (some a) s (l .0) in
+    let head = head-end σ (some a) s (l .0) in
+    let rear = rear-head s in
+    (omega arith, clear σ p s ss (omega arith) (l .2))
+
+safe : (σ : Settings) (ahead : Option Stay) (ss : List Stay) → Lined σ ahead ss → Safe σ ahead ss
+safe σ ahead [] l = tt
+safe σ ahead (s ∷ ss) l =
+    (alone σ ahead s (l .0), separate σ ahead s (l .0), clear σ s s ss (omega arith) (l .2), safe σ (some s) ss (l .2))
+
+-- for every accepted opening and every list of calls on the table that it made
+pub demand-3 : (σ : Settings) (t : Table) → openStep σ ≡ outcome Done t → (cs : List Call) → Demand3 σ t cs
+unfolding Claim
+demand-3 σ t opened cs =
+    let T = told σ t opened cs in
+    let es = history t cs in
+    record {
+      claim = safe σ none (stays es) (subst (λ (ρ : Settings). Lined ρ none (stays es)) (T .settings) (T .lined));
+      settings = T .settings;
+      count = told-count σ es _ T;
+      trains = T .trains;
+    }

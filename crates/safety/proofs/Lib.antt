@@ -1,0 +1,12 @@
+pub mod Stays
+pub mod Deeds
+pub mod Records
+pub mod Train
+pub mod Holding
+pub mod Finding
+pub mod Line
+pub mod Told
+pub mod Calls
+pub mod Demand3
+pub mod Bounds
+pub mod Session

@@ -1,0 +1,90 @@
+-- A train's record is what its stay tells: at its entering, and after each act of the train.
+-- Assumes nothing.
+use Prim.Native.Nat.{ℕ}
+use mathlib.Core.Bool.{true, false}
+use mathlib.Core.Option.{Option, none, some}
+use mathlib.Core.List.{List, [], _∷_}
+use mathlib.Core.Path.{_≡_, refl}
+use lib.Dec.{eqb}
+use Rattle.brake.specs.declared.Figures.{Figures}
+use Rattle.brake.specs.declared.FiguresFound.the-variants.{Given}
+use Rattle.brake.specs.Consist.{figuresOf}
+use Rattle.brake.proofs.Tests.{by-test}
+use Rattle.motion.specs.declared.Motion.{Motion}
+use Rattle.motion.specs.declared.Order.{Order}
+use Rattle.motion.specs.declared.Order.the-variants.{Drive, Brake}
+use Rattle.motion.specs.Orders.{worstCase}
+use Rattle.line.specs.declared.Settings.{Settings}
+use Rattle.line.specs.declared.Train.{Train}
+use Rattle.line.specs.declared.Act.{Act}
+use Rattle.line.specs.declared.Act.the-variants.{Report, Extend, CallBack, Hold, Lift}
+use Rattle.line.specs.declared.Answer.{Answer}
+use Rattle.line.specs.declared.Answer.the-variants.{Done}
+use Rattle.line.specs.Report.{reported}
+use Rattle.line.specs.Calls.{entering, isRepeat, extended, authorised, acted}
+use Rattle.line.specs.Step.{actAnswer}
+use Rattle.safety.specs.History.{Deed, Stay, headOf, speedOf, Authority, authorityBy, authorityOf, figuresFor, levelAfter, orderingOf, hasLift, heldFor}
+use Rattle.safety.specs.Claim.{isHeld, recordOf}
+use Rattle.safety.proofs.Stays.{withDeeds, newStay}
+use Rattle.safety.proofs.Deeds.{heldOn, record-deed}
+
+pub record-new : (id h l load s : ℕ) (k : Figures) → figuresOf load l ≡ Given k → recordOf (newStay id h l load s) ≡ entering id h l k s
+unfolding recordOf headOf speedOf authorityOf orderingOf figuresFor heldFor
+record-new id h l load s k e = rw e
+
+-- no deed changes the length
+pub record-length : (s : Stay) (ds : List Deed) → recordOf (withDeeds s ds) .length ≡ recordOf s .length
+unfolding recordOf
+record-length s ds = refl
+
+-- ---- an act
+
+abbrev pub deed : Act → Answer → Deed
+deed a r = record { act = a; answer = r }
+
+-- the stay after an act of the train
+abbrev pub did : Settings → Act → Stay → Stay
+did σ a s = withDeeds s (deed a (actAnswer a (recordOf s) (acted σ a (recordOf s))) ∷ [])
+
+-- the mark: an act that neither holds nor lifts, a hold, a lift
+held-same : (o : Option ℕ) (d : Deed) → heldFor (d ∷ []) ≡ none → hasLift (d ∷ []) ≡ false → isHeld (heldOn o (d ∷ [])) ≡ isHeld o
+unfolding heldOn
+held-same none d e f = rw e
+held-same (some n) d e f = rw f
+
+held-hold : (o : Option ℕ) (r : Answer) → isHeld (heldOn o (deed Hold r ∷ [])) ≡ true
+unfolding heldOn heldFor hasLift
+held-hold none r = refl
+held-hold (some n) r = refl
+
+held-lift : (o : Option ℕ) (r : Answer) → isHeld (heldOn o (deed Lift r ∷ [])) ≡ false
+unfolding heldOn heldFor hasLift
+held-lift none r = refl
+held-lift (some n) r = refl
+
+level-worst : (k : Figures) (m : Motion) (o : Order) → levelAfter k o (m .level) ≡ worstCase k m o .level
+level-worst k m (Drive c) = refl
+level-worst k m Brake = refl
+
+abbrev withAuthority : Train → Authority → Train
+withAuthority x a = authorised x (a .end) (a .number) (a .asked)
+
+-- the end: the answer to an extension is not read, so any stands here
+extend-authority : (x : Train) (n l : ℕ)
+    → withAuthority x (authorityBy (record { number = x .number; asked = x .asked; end = x .end }) (deed (Extend n l) Done)) ≡ extended x n l
+unfolding extended isRepeat
+extend-authority x n l = by-test (eqb n (x .number)) (λ e. rw e) (λ e. rw e)
+
+pub record-acted : (σ : Settings) (s : Stay) (a : Act) → recordOf (did σ a s) ≡ acted σ a (recordOf s)
+unfolding acted reported recordOf heldFor hasLift
+record-acted σ s (Report h v) =
+    rw (
+      record-deed s,
+      held-same (heldFor (s .deeds)) (deed (Report h v) _) refl refl,
+      level-worst (figuresFor s) (recordOf s .motion) (orderingOf s .order),
+    )
+record-acted σ s (Extend n l) =
+    rw (record-deed s, held-same (heldFor (s .deeds)) (deed (Extend n l) _) refl refl) (extend-authority (recordOf s) n l)
+record-acted σ s (CallBack p) = rw (record-deed s, held-same (heldFor (s .deeds)) (deed (CallBack p) _) refl refl)
+record-acted σ s Hold = rw (record-deed s, held-hold)
+record-acted σ s Lift = rw (record-deed s, held-lift)

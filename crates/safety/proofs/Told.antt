@@ -1,0 +1,61 @@
+-- The invariant of a table under the history that led to it, and how to read the table by the stays.
+-- Assumes nothing.
+use Prim.Native.Nat.{ℕ, zero, suc, _≤_, _<_}
+use mathlib.Core.Option.{Option, none, some, Option·map}
+use mathlib.Core.List.{List, [], _∷_, map}
+use mathlib.Core.Path.{_≡_, refl, sym, _∙_, ap, subst}
+use native.Mathlib.Omega.{arith}
+use lib.ListN.{length, getD, length-map}
+use Rattle.line.specs.declared.Settings.{Settings}
+use Rattle.line.specs.declared.Train.{Train}
+use Rattle.line.specs.declared.Table.{Table}
+use Rattle.line.specs.declared.Found.the-variants.{At, Nothing}
+use Rattle.line.specs.Table.{blankTrain, onLine, findOf, trainAt, aheadOf}
+use Rattle.safety.specs.History.{Event, Stay, stays}
+use Rattle.safety.specs.Claim.{recordOf}
+use Rattle.line.proofs.Trains.{Sized, line-length, train-on-line}
+use Rattle.safety.proofs.Finding.{Absent, IsAt, place-below, missing, found}
+use Rattle.safety.proofs.Line.{Lined, aheadIn}
+
+-- on a line with settings σ the history es has led to the table t
+pub record Told (σ : Settings) (es : List Event) (t : Table) : Type 0 where
+  pub settings : t .settings ≡ σ
+  pub sized : Sized t
+  pub trains : onLine t ≡ map recordOf (stays es)
+  pub lined : Lined (t .settings) none (stays es)
+
+ahead-in : (ahead : Option Stay) (ss : List Stay) (i : ℕ) → i < length ss
+    → some (getD (map recordOf ss) i blankTrain) ≡ Option·map recordOf (aheadIn ahead ss (suc i))
+ahead-in ahead [] i h = absurd (omega arith)
+ahead-in ahead (s ∷ ss) zero h = refl
+ahead-in ahead (s ∷ ss) (suc i) h = ahead-in (some s) ss i (omega arith)
+
+module _ (σ : Settings) (es : List Event) (t : Table) (T : Told σ es t) where
+  pub told-count : t .count ≡ length (stays es)
+  told-count = sym (line-length t (T .sized)) ∙ ap length (T .trains) ∙ length-map (stays es) recordOf
+
+  pub told-train : (i : ℕ) → i < t .count → trainAt t i ≡ getD (map recordOf (stays es)) i blankTrain
+  told-train i h = train-on-line t i h ∙ ap (λ (xs : List Train). getD xs i blankTrain) (T .trains)
+
+  pub told-ahead : (i : ℕ) → i ≤ t .count → aheadOf t i ≡ Option·map recordOf (aheadIn none (stays es) i)
+  unfolding aheadOf
+  told-ahead zero h = refl
+  told-ahead (suc i) h =
+      let count = told-count in
+      ap (λ (x : Train). some x) (told-train i h) ∙ ahead-in none (stays es) i (omega arith)
+
+  pub told-absent : (id : ℕ) → findOf t id ≡ Nothing → Absent id (stays es)
+  unfolding findOf
+  told-absent id e = missing id (stays es) 0 (rw (T .trains) at e)
+
+  pub told-place : (id i : ℕ) → findOf t id ≡ At i → IsAt id (stays es) i
+  unfolding findOf
+  told-place id i e =
+      let (j, same, place) = found id (stays es) 0 i (rw (T .trains) at e) in
+      subst (IsAt id (stays es)) (omega arith) place
+
+  pub told-below : (id i : ℕ) → findOf t id ≡ At i → i < t .count
+  told-below id i e =
+      let below = place-below id (stays es) i (told-place id i e) in
+      let count = told-count in
+      omega arith

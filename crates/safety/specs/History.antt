@@ -1,0 +1,198 @@
+-- Document 01, "Authorities": the words of demand 3. They come from the calls and their answers alone.
+use Prim.Native.Nat.{ℕ, _+_, _-_}
+use mathlib.Core.Bool.{Bool, true, false, cond, _&&_, _||_}
+use mathlib.Core.Option.{Option, none, some}
+use mathlib.Core.List.{List, [], _∷_, _++_, foldl}
+use lib.Dec.{eqb}
+use Rattle.brake.specs.declared.Figures.{Figures}
+use Rattle.brake.specs.declared.FiguresFound.{FiguresFound}
+use Rattle.brake.specs.declared.FiguresFound.the-variants.{Given, NoFigures}
+use Rattle.brake.specs.Consist.{figuresOf}
+use Rattle.motion.specs.declared.Order.{Order}
+use Rattle.motion.specs.declared.Order.the-variants.{Drive, Brake}
+use Rattle.motion.specs.Motion.{nextLevel, releasedLevel}
+use Rattle.line.specs.declared.Table.{Table}
+use Rattle.line.specs.declared.Act.{Act}
+use Rattle.line.specs.declared.Act.the-variants.{Report, Extend, CallBack, Hold, Lift}
+use Rattle.line.specs.declared.Call.{Call}
+use Rattle.line.specs.declared.Call.the-variants.{Enter, Own, TakeOff}
+use Rattle.line.specs.declared.Answer.{Answer}
+use Rattle.line.specs.declared.Answer.the-variants.{Entered, Ordered, Extended, Done, Refused}
+use Rattle.line.specs.Calls.{stepsOf}
+use Rattle.line.specs.Answers.{numbersOf}
+use Rattle.line.specs.Step.{step}
+
+-- a call with its answer
+pub record Event : Type 0 where
+  pub call : Call
+  pub answer : Answer
+
+-- calls on a table, each on the table that the one before it left: the history, oldest first, and the table after them
+unfoldable pub history : Table → List Call → List Event
+history t [] = []
+history t (c ∷ cs) = record { call = c; answer = step t c .answer } ∷ history (step t c .table) cs
+
+unfoldable pub after : Table → List Call → Table
+after t [] = t
+after t (c ∷ cs) = after (step t c .table) cs
+
+-- answer 0 is acceptance
+unfoldable pub isAccepted : Event → Bool
+isAccepted e = eqb (numbersOf (e .answer) .number) 0
+
+-- ---- on the line
+
+-- an accepted act of a train, with its answer
+pub record Deed : Type 0 where
+  pub act : Act
+  pub answer : Answer
+
+unfoldable pub deedIn : ℕ → Call → Answer → List Deed
+deedIn id (Enter i h l load s) r = []
+deedIn id (Own i a) r = cond (eqb id i) (record { act = a; answer = r } ∷ []) []
+deedIn id (TakeOff i) r = []
+
+-- the accepted acts of the train with this id
+unfoldable pub deedsIn : ℕ → List Event → List Deed
+deedsIn id [] = []
+deedsIn id (e ∷ es) = cond (isAccepted e) (deedIn id (e .call) (e .answer)) [] ++ deedsIn id es
+
+unfoldable pub takesOff : ℕ → Call → Bool
+takesOff id (Enter i h l load s) = false
+takesOff id (Own i a) = false
+takesOff id (TakeOff i) = eqb id i
+
+-- an accepted taking off of the train with this id
+unfoldable pub hasLeft : ℕ → List Event → Bool
+hasLeft id [] = false
+hasLeft id (e ∷ es) = (isAccepted e && takesOff id (e .call)) || hasLeft id es
+
+-- a stay: what was entered, and the train's accepted acts since
+pub record Stay : Type 0 where
+  pub id : ℕ
+  pub head : ℕ
+  pub length : ℕ
+  pub load : ℕ
+  pub start : ℕ
+  pub deeds : List Deed
+
+-- the stay that an accepted call begins, unless a later event ends it
+unfoldable pub stayFrom : Call → List Event → List Stay
+stayFrom (Enter i h l load s) es =
+    cond (hasLeft i es) [] (record { id = i; head = h; length = l; load = load; start = s; deeds = deedsIn i es } ∷ [])
+stayFrom (Own i a) es = []
+stayFrom (TakeOff i) es = []
+
+-- The trains on the line, in the order of entering: each from its accepted entering to its accepted taking off. The train
+-- ahead is the one before in this list.
+unfoldable pub stays : List Event → List Stay
+stays [] = []
+stays (e ∷ es) = cond (isAccepted e) (stayFrom (e .call) es) [] ++ stays es
+
+-- ---- head, speed, rear
+
+-- those of the last accepted report or, before the first one, the entering head and 0
+abbrev pub headBy : ℕ → Deed → ℕ
+headBy x d = elim (d .act) [ Report h v ↦ h | Extend n l ↦ x | CallBack p ↦ x | Hold ↦ x | Lift ↦ x ]
+
+unfoldable pub headOf : Stay → ℕ
+headOf s = foldl headBy (s .head) (s .deeds)
+
+abbrev pub speedBy : ℕ → Deed → ℕ
+speedBy x d = elim (d .act) [ Report h v ↦ v | Extend n l ↦ x | CallBack p ↦ x | Hold ↦ x | Lift ↦ x ]
+
+unfoldable pub speedOf : Stay → ℕ
+speedOf s = foldl speedBy 0 (s .deeds)
+
+-- the length is the entered one
+unfoldable pub rearOf : Stay → ℕ
+rearOf s = headOf s - stepsOf (s .length)
+
+-- ---- the end of authority
+
+-- number and length of the last accepted extension, and the end
+pub record Authority : Type 0 where
+  pub number : ℕ
+  pub asked : ℕ
+  pub end : ℕ
+
+-- A new number adds its length, and the last one again adds none; a call back names the new end.
+abbrev pub authorityBy : Authority → Deed → Authority
+authorityBy x d =
+    elim (d .act) [
+      | Report h v ↦ x
+      | Extend n l ↦ cond (eqb n (x .number)) x (record { number = n; asked = l; end = x .end + l })
+      | CallBack p ↦ record { number = x .number; asked = x .asked; end = p }
+      | Hold ↦ x
+      | Lift ↦ x
+    ]
+
+-- the entering head at first
+unfoldable pub authorityOf : Stay → Authority
+authorityOf s = foldl authorityBy (record { number = s .start; asked = 0; end = s .head }) (s .deeds)
+
+abbrev pub endOf : Stay → ℕ
+endOf s = authorityOf s .end
+
+-- ---- figures, last order, level
+
+-- by load class and length; no entering is accepted that has none
+abbrev pub figuresIn : FiguresFound → Figures
+figuresIn (Given k) = k
+figuresIn NoFigures = record { full = 0; growth = 0 }
+
+unfoldable pub figuresFor : Stay → Figures
+figuresFor s = figuresIn (figuresOf (s .load) (s .length))
+
+-- the level that a brake in the coming cycle has: 0 after a driven cycle, the next level after a braked one
+abbrev pub levelAfter : Figures → Order → ℕ → ℕ
+levelAfter k (Drive c) level = releasedLevel
+levelAfter k Brake level = nextLevel k level
+
+pub record Ordering : Type 0 where
+  pub order : Order
+  pub level : ℕ
+
+-- the answer to a report gives the order; an accepted report has no other answer
+abbrev pub orderIn : Order → Answer → Order
+orderIn last (Ordered o r) = o
+orderIn last (Entered b j e) = last
+orderIn last (Extended e repeat) = last
+orderIn last Done = last
+orderIn last (Refused r) = last
+
+abbrev pub orderingBy : Figures → Ordering → Deed → Ordering
+orderingBy k x d =
+    elim (d .act) [
+      | Report h v ↦ record { order = orderIn (x .order) (d .answer); level = levelAfter k (x .order) (x .level) }
+      | Extend n l ↦ x
+      | CallBack p ↦ x
+      | Hold ↦ x
+      | Lift ↦ x
+    ]
+
+-- before the first report: brake, at full level
+unfoldable pub orderingOf : Stay → Ordering
+orderingOf s = foldl (orderingBy (figuresFor s)) (record { order = Brake; level = figuresFor s .full }) (s .deeds)
+
+-- ---- held
+
+unfoldable pub hasLift : List Deed → Bool
+hasLift [] = false
+hasLift (d ∷ ds) = elim (d .act) [ Report h v ↦ false | Extend n l ↦ false | CallBack p ↦ false | Hold ↦ false | Lift ↦ true ] || hasLift ds
+
+unfoldable pub reportsIn : List Deed → ℕ
+reportsIn [] = 0
+reportsIn (d ∷ ds) = elim (d .act) [ Report h v ↦ 1 | Extend n l ↦ 0 | CallBack p ↦ 0 | Hold ↦ 0 | Lift ↦ 0 ] + reportsIn ds
+
+-- Held: a hold with no lift afterwards. The reports are counted from the first such hold.
+unfoldable pub heldFor : List Deed → Option ℕ
+heldFor [] = none
+heldFor (d ∷ ds) =
+    elim (d .act) [
+      | Report h v ↦ heldFor ds
+      | Extend n l ↦ heldFor ds
+      | CallBack p ↦ heldFor ds
+      | Hold ↦ cond (hasLift ds) (heldFor ds) (some (reportsIn ds))
+      | Lift ↦ heldFor ds
+    ]

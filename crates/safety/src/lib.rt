@@ -1,0 +1,1 @@
+// Demand 3 about the code: a run of calls.
