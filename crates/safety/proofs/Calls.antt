@@ -23,6 +23,7 @@ use Rattle.line.specs.declared.Act.{Act}
 use Rattle.line.specs.declared.Call.{Call}
 use Rattle.line.specs.declared.Call.the-variants.{Enter, Own, TakeOff}
 use Rattle.line.specs.declared.Refusal.{Refusal}
+use Rattle.line.specs.declared.Refusal.the-variants.{BadEntry, NoTrain}
 use Rattle.line.specs.declared.Answer.the-variants.{Entered, Done, Refused}
 use Rattle.line.specs.declared.Outcome.{Outcome}
 use Rattle.line.specs.Table.{places, emptyTable, findOf, trainAt, aheadOf, withTrain, withLast, withoutFirst}
@@ -66,7 +67,7 @@ module _ (σ : Settings) (es : List Event) (t : Table) (T : Told σ es t) where
       let below = told-below σ es t T id i f in
       let passes = rw (told-ahead σ es t T i (omega arith), told-train σ es t T i below) at e in
       let (lined, same) = lined-act (t .settings) id a none (stays es) i (T .lined) (told-place σ es t T id i f) passes in
-      let now = stays-kept es (Own id a) (actAnswer a x (acted (t .settings) a x)) (act-accepted _ a _ _) (unfold stayFrom in refl) in
+      let now = stays-kept es (Own id a) (actAnswer a x (acted (t .settings) a x)) (act-accepted _ a x _) (unfold stayFrom in refl) in
       record {
         settings = T .settings;
         sized = sized-with t i _ (T .sized);
@@ -118,17 +119,17 @@ module _ (σ : Settings) (es : List Event) (t : Table) (T : Told σ es t) where
   told-step (Enter id h l load s) = go (figuresOf load l) refl
     where
       go : (f : FiguresFound) → figuresOf load l ≡ f → Next σ es (Enter id h l load s) (enterStep t id h l s f)
-      go NoFigures q = told-refused _ _
+      go NoFigures q = told-refused _ BadEntry
       go (Given k) q = told-judged _ (firstOf (enterChecks t id h l s)) _ (told-enter id h l load s k q)
   told-step (Own id a) = go (findOf t id) refl
     where
       go : (f : Found) → findOf t id ≡ f → Next σ es (Own id a) (ownStep t a f)
-      go Nothing q = told-refused _ _
+      go Nothing q = told-refused _ NoTrain
       go (At i) q = told-judged _ (firstOf (actChecks (t .settings) (aheadOf t i) (trainAt t i) a)) _ (told-act id a i q)
   told-step (TakeOff id) = go (findOf t id) refl
     where
       go : (f : Found) → findOf t id ≡ f → Next σ es (TakeOff id) (takeOffStep t f)
-      go Nothing q = told-refused _ _
+      go Nothing q = told-refused _ NoTrain
       go (At i) q = told-judged _ (firstOf (takeOffChecks i (trainAt t i))) _ (told-off id i q)
 
 -- ---- every list of calls

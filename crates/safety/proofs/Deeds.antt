@@ -8,7 +8,7 @@ use mathlib.Core.Path.{_≡_, refl, sym, _∙_}
 use native.Mathlib.Omega.{arith}
 use Rattle.line.specs.declared.Act.{Act}
 use Rattle.line.specs.declared.Act.the-variants.{Report, Extend, CallBack, Hold, Lift}
-use Rattle.line.specs.declared.Answer.{Answer}
+use Rattle.line.specs.declared.Numbers.{Numbers}
 use Rattle.safety.specs.History.{Deed, Stay, headBy, headOf, speedBy, speedOf, authorityBy, authorityOf, endOf, figuresFor, orderingBy, orderingOf, hasLift, reportsIn, heldFor}
 use Rattle.safety.specs.Claim.{isHeld, recordOf}
 use Rattle.safety.proofs.Stays.{withDeeds}
@@ -48,7 +48,7 @@ unfolding heldFor heldOn
 held-append [] ds′ = refl
 held-append (d ∷ ds) ds′ = go (d .act) (d .answer) (held-append ds ds′)
   where
-    go : (a : Act) (r : Answer) → heldFor (ds ++ ds′) ≡ heldOn (heldFor ds) ds′
+    go : (a : Act) (r : Numbers) → heldFor (ds ++ ds′) ≡ heldOn (heldFor ds) ds′
         → heldFor (record { act = a; answer = r } ∷ (ds ++ ds′)) ≡ heldOn (heldFor (record { act = a; answer = r } ∷ ds)) ds′
     go (Report h v) r again = again
     go (Extend n l) r again = again

@@ -11,6 +11,7 @@ use Rattle.line.specs.declared.Settings.{Settings}
 use Rattle.line.specs.declared.Train.{Train}
 use Rattle.line.specs.declared.Act.{Act}
 use Rattle.line.specs.declared.Call.the-variants.{Own, TakeOff}
+use Rattle.line.specs.declared.Answer.{Answer}
 use Rattle.line.specs.declared.Answer.the-variants.{Done}
 use Rattle.line.specs.Table.{blankTrain}
 use Rattle.line.specs.Calls.{stepsOf, acted}
@@ -75,16 +76,19 @@ wider-end σ ahead x g end place limit = let head = guarded-head σ ahead x g in
 
 module _ (σ : Settings) (id : ℕ) (a : Act) where
   -- accepted, of the train x
+  abbrev answerOf : Train → Answer
+  answerOf x = actAnswer a x (acted σ a x)
+
   abbrev actEvent : Train → Event
-  actEvent x = event (Own id a) (actAnswer a x (acted σ a x))
+  actEvent x = event (Own id a) (answerOf x)
 
   act-mine : (s : Stay) → s .id ≡ id → keptStay (actEvent (recordOf s) ∷ []) s ≡ did σ a s ∷ []
   unfolding takesOff deedIn
-  act-mine s e = kept-accepted _ _ (act-accepted _ a _ _) s ∙ rw (eq-eqb (s .id) id e)
+  act-mine s e = kept-accepted (Own id a) (answerOf (recordOf s)) (act-accepted _ a (recordOf s) _) s ∙ rw (eq-eqb (s .id) id e)
 
   act-other : (x : Train) (s : Stay) → (s .id ≡ id → ⊥) → keptStay (actEvent x ∷ []) s ≡ s ∷ []
   unfolding takesOff deedIn
-  act-other x s e = kept-accepted _ _ (act-accepted _ a _ _) s ∙ rw (ne-eqb (s .id) id e, append-nil (s .deeds))
+  act-other x s e = kept-accepted (Own id a) (answerOf x) (act-accepted _ a x _) s ∙ rw (ne-eqb (s .id) id e, append-nil (s .deeds))
 
   -- the checks of the stay s behind `ahead`
   abbrev Passes : Option Stay → Stay → Type 0
@@ -96,7 +100,7 @@ module _ (σ : Settings) (id : ℕ) (a : Act) where
       let g = t .guarded in
       record {
         guarded = rw (record-acted σ s a) (guarded-acted σ _ (recordOf s) g a e);
-        slowing = rw (record-acted σ s a, held-deed s) (slowing-acted σ _ (recordOf s) g a _ (heldFor (s .deeds)) e refl (t .slowing));
+        slowing = rw (record-acted σ s a, held-deed s) (slowing-acted σ _ (recordOf s) g a (answerOf (recordOf s)) (heldFor (s .deeds)) e refl (t .slowing));
       }
 
   wider-act : (ahead : Option Stay) (s : Stay) → Passes ahead s → Wider σ (some (recordOf s)) (some (recordOf (did σ a s)))
@@ -143,11 +147,11 @@ module _ (σ : Settings) (id : ℕ) where
 
   off-mine : (s : Stay) → s .id ≡ id → keptStay (offEvent ∷ []) s ≡ []
   unfolding takesOff
-  off-mine s e = kept-accepted _ _ (done-accepted _) s ∙ rw (eq-eqb (s .id) id e)
+  off-mine s e = kept-accepted (TakeOff id) Done (done-accepted _) s ∙ rw (eq-eqb (s .id) id e)
 
   off-other : (s : Stay) → (s .id ≡ id → ⊥) → keptStay (offEvent ∷ []) s ≡ s ∷ []
   unfolding takesOff deedIn
-  off-other s e = kept-accepted _ _ (done-accepted _) s ∙ rw (ne-eqb (s .id) id e, append-nil (s .deeds))
+  off-other s e = kept-accepted (TakeOff id) Done (done-accepted _) s ∙ rw (ne-eqb (s .id) id e, append-nil (s .deeds))
 
   pub lined-off : (ss : List Stay) → Lined σ none ss → IsAt id ss 0
       → Lined σ none (keptStays (offEvent ∷ []) ss) × (map recordOf (keptStays (offEvent ∷ []) ss) ≡ drop 1 (map recordOf ss))

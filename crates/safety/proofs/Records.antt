@@ -19,11 +19,12 @@ use Rattle.line.specs.declared.Train.{Train}
 use Rattle.line.specs.declared.Act.{Act}
 use Rattle.line.specs.declared.Act.the-variants.{Report, Extend, CallBack, Hold, Lift}
 use Rattle.line.specs.declared.Answer.{Answer}
-use Rattle.line.specs.declared.Answer.the-variants.{Done}
+use Rattle.line.specs.declared.Answer.the-variants.{Ordered, Done}
 use Rattle.line.specs.Report.{reported}
 use Rattle.line.specs.Calls.{entering, isRepeat, extended, authorised, acted}
+use Rattle.line.specs.Answers.{numbersOf}
 use Rattle.line.specs.Step.{actAnswer}
-use Rattle.safety.specs.History.{Deed, Stay, headOf, speedOf, Authority, authorityBy, authorityOf, figuresFor, levelAfter, orderingOf, hasLift, heldFor}
+use Rattle.safety.specs.History.{Deed, Stay, headOf, speedOf, Authority, authorityBy, authorityOf, figuresFor, levelAfter, orderIn, orderingOf, hasLift, heldFor}
 use Rattle.safety.specs.Claim.{isHeld, recordOf}
 use Rattle.safety.proofs.Stays.{withDeeds, newStay}
 use Rattle.safety.proofs.Deeds.{heldOn, record-deed}
@@ -40,7 +41,7 @@ record-length s ds = refl
 -- ---- an act
 
 abbrev pub deed : Act → Answer → Deed
-deed a r = record { act = a; answer = r }
+deed a r = record { act = a; answer = numbersOf r }
 
 -- the stay after an act of the train
 abbrev pub did : Settings → Act → Stay → Stay
@@ -62,6 +63,11 @@ unfolding heldOn heldFor hasLift
 held-lift none r = refl
 held-lift (some n) r = refl
 
+-- the order is read back from the answer
+order-told : (o : Order) (r : ℕ) → orderIn (numbersOf (Ordered o r)) ≡ o
+order-told (Drive c) r = refl
+order-told Brake r = refl
+
 level-worst : (k : Figures) (m : Motion) (o : Order) → levelAfter k o (m .level) ≡ worstCase k m o .level
 level-worst k m (Drive c) = refl
 level-worst k m Brake = refl
@@ -81,6 +87,7 @@ record-acted σ s (Report h v) =
     rw (
       record-deed s,
       held-same (heldFor (s .deeds)) (deed (Report h v) _) refl refl,
+      order-told,
       level-worst (figuresFor s) (recordOf s .motion) (orderingOf s .order),
     )
 record-acted σ s (Extend n l) =

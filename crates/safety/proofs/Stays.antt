@@ -13,6 +13,7 @@ use Rattle.line.specs.declared.Refusal.{Refusal}
 use Rattle.line.specs.declared.Refusal.the-variants.{BadSetting, BadEntry, OnLine, LineFull, BadHead, NoTrain, NotAllowed, BadRequest, OldNumber, OtherLength, NoTrack, BadPlace, NotLeaving}
 use Rattle.line.specs.declared.Answer.{Answer}
 use Rattle.line.specs.declared.Answer.the-variants.{Entered, Done, Refused}
+use Rattle.line.specs.Answers.{numbersOf}
 use Rattle.line.specs.Step.{actAnswer}
 use Rattle.safety.specs.History.{Event, isAccepted, Deed, deedIn, deedsIn, takesOff, hasLeft, Stay, stayFrom, stays}
 
@@ -76,7 +77,7 @@ stays-append (e ∷ es) fs =
 -- ---- which answers accept
 
 abbrev pub event : Call → Answer → Event
-event c r = record { call = c; answer = r }
+event c r = record { call = c; answer = numbersOf r }
 
 module _ (c : Call) where
   refused : (r : Refusal) → isAccepted (event c (Refused r)) ≡ false
@@ -122,9 +123,9 @@ unfolding stays
 none-begun e q = rw q
 
 module _ (c : Call) (r : Answer) (q : isAccepted (event c r) ≡ true) where
-  pub kept-accepted : (s : Stay) → keptStay (event c r ∷ []) s ≡ cond (takesOff (s .id) c) [] (withDeeds s (deedIn (s .id) c r) ∷ [])
+  pub kept-accepted : (s : Stay) → keptStay (event c r ∷ []) s ≡ cond (takesOff (s .id) c) [] (withDeeds s (deedIn (s .id) c (numbersOf r)) ∷ [])
   unfolding keptStay hasLeft deedsIn
-  kept-accepted s = rw (q, or-false (takesOff (s .id) c), append-nil (deedIn (s .id) c r))
+  kept-accepted s = rw (q, or-false (takesOff (s .id) c), append-nil (deedIn (s .id) c (numbersOf r)))
 
   begun : stays (event c r ∷ []) ≡ stayFrom c []
   unfolding stays

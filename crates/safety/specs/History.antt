@@ -16,21 +16,20 @@ use Rattle.line.specs.declared.Act.{Act}
 use Rattle.line.specs.declared.Act.the-variants.{Report, Extend, CallBack, Hold, Lift}
 use Rattle.line.specs.declared.Call.{Call}
 use Rattle.line.specs.declared.Call.the-variants.{Enter, Own, TakeOff}
-use Rattle.line.specs.declared.Answer.{Answer}
-use Rattle.line.specs.declared.Answer.the-variants.{Entered, Ordered, Extended, Done, Refused}
+use Rattle.line.specs.declared.Numbers.{Numbers}
 use Rattle.line.specs.Calls.{stepsOf}
 use Rattle.line.specs.Answers.{numbersOf}
 use Rattle.line.specs.Step.{step}
 
--- a call with its answer
+-- a call with its answer: the number and the three values
 pub record Event : Type 0 where
   pub call : Call
-  pub answer : Answer
+  pub answer : Numbers
 
 -- calls on a table, each on the table that the one before it left: the history, oldest first, and the table after them
 unfoldable pub history : Table → List Call → List Event
 history t [] = []
-history t (c ∷ cs) = record { call = c; answer = step t c .answer } ∷ history (step t c .table) cs
+history t (c ∷ cs) = record { call = c; answer = numbersOf (step t c .answer) } ∷ history (step t c .table) cs
 
 unfoldable pub after : Table → List Call → Table
 after t [] = t
@@ -38,16 +37,16 @@ after t (c ∷ cs) = after (step t c .table) cs
 
 -- answer 0 is acceptance
 unfoldable pub isAccepted : Event → Bool
-isAccepted e = eqb (numbersOf (e .answer) .number) 0
+isAccepted e = eqb (e .answer .number) 0
 
 -- ---- on the line
 
 -- an accepted act of a train, with its answer
 pub record Deed : Type 0 where
   pub act : Act
-  pub answer : Answer
+  pub answer : Numbers
 
-unfoldable pub deedIn : ℕ → Call → Answer → List Deed
+unfoldable pub deedIn : ℕ → Call → Numbers → List Deed
 deedIn id (Enter i h l load s) r = []
 deedIn id (Own i a) r = cond (eqb id i) (record { act = a; answer = r } ∷ []) []
 deedIn id (TakeOff i) r = []
@@ -153,18 +152,14 @@ pub record Ordering : Type 0 where
   pub order : Order
   pub level : ℕ
 
--- the answer to a report gives the order; an accepted report has no other answer
-abbrev pub orderIn : Order → Answer → Order
-orderIn last (Ordered o r) = o
-orderIn last (Entered b j e) = last
-orderIn last (Extended e repeat) = last
-orderIn last Done = last
-orderIn last (Refused r) = last
+-- the answer to a report gives the order: 1 drive and its cap, 2 brake
+abbrev pub orderIn : Numbers → Order
+orderIn r = cond (eqb (r .first) 1) (Drive (r .second)) Brake
 
 abbrev pub orderingBy : Figures → Ordering → Deed → Ordering
 orderingBy k x d =
     elim (d .act) [
-      | Report h v ↦ record { order = orderIn (x .order) (d .answer); level = levelAfter k (x .order) (x .level) }
+      | Report h v ↦ record { order = orderIn (d .answer); level = levelAfter k (x .order) (x .level) }
       | Extend n l ↦ x
       | CallBack p ↦ x
       | Hold ↦ x

@@ -17,7 +17,7 @@ sessionLine = record { end = 200000000000; safety = 8000000000; limits = record 
 
 -- the opening's answer and those of the calls after it, as they are printed
 abbrev pub printedBy : Settings → List Call → List Numbers
-printedBy σ cs = numbersOf (openStep σ .answer) ∷ map (λ (e : Event). numbersOf (e .answer)) (history (openStep σ .table) cs)
+printedBy σ cs = numbersOf (openStep σ .answer) ∷ map (λ (e : Event). e .answer) (history (openStep σ .table) cs)
 
 -- the session, then the report that is taken and the two call backs
 abbrev pub sessionCalls : List Call
