@@ -1,7 +1,6 @@
 -- Laws of the codes: one for each, and no other.
 -- Assumes nothing.
 use Prim.Native.Nat.{ℕ}
-use mathlib.Core.Bool.{true}
 use mathlib.Core.Path.{_≡_, refl}
 use borrow.Author.Tests.{ne-eqb}
 use Rattle.line.specs.declared.Act.the-variants.{Report, Extend, CallBack, Hold, Lift}

@@ -6,3 +6,4 @@ pub mod Records
 pub mod Checks
 pub mod Steps
 pub mod Codes
+pub mod Rules

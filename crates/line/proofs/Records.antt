@@ -3,16 +3,16 @@
 use Prim.Native.Nat.{ℕ, _≤_, _<_}
 use mathlib.Core.Bool.{true, false, _&&_}
 use mathlib.Core.Logic.{inl, inr}
-use mathlib.Core.Path.{_≡_, refl, sym, _∙_, subst}
+use mathlib.Core.Path.{_≡_}
 use native.Mathlib.Omega.{arith}
 use lib.Dec.{leb}
-use borrow.Author.Tests.{le-leb, lt-leb, lt-ltb, le-ltb, leb-true}
+use borrow.Author.Tests.{le-leb, lt-leb}
 use Rattle.brake.proofs.Tests.{by-test, both}
 use Rattle.motion.specs.declared.Motion.{Motion}
 use Rattle.motion.specs.declared.Order.{Order}
 use Rattle.motion.specs.declared.Order.the-variants.{Drive, Brake}
 use Rattle.motion.specs.Orders.{orderCap, orderFor}
-use Rattle.motion.specs.Bounds.{Bounded, inBounds}
+use Rattle.motion.specs.Bounds.{Bounded}
 use Rattle.motion.proofs.Bounds.{bounds-tested, bounds-hold, bounded-cap}
 use Rattle.motion.proofs.Orders.{MayOrder, ordered-cap}
 use Rattle.line.specs.declared.Settings.{Settings}

@@ -2,20 +2,18 @@
 -- Assumes nothing.
 use Prim.Native.Nat.{ℕ, _+_, _≤_, _<_}
 use mathlib.Core.Bool.{true, false, _&&_}
-use mathlib.Core.Path.{_≡_, refl, sym, ap, _∙_}
+use mathlib.Core.Path.{_≡_, sym, ap, _∙_}
 use native.Mathlib.Omega.{arith}
 use lib.ListN.{set}
 use lib.Seq.{set-getD}
 use borrow.Author.Tests.{le-leb, lt-leb, eq-eqb, ne-eqb}
 use Rattle.brake.specs.declared.Figures.{Figures}
-use Rattle.brake.specs.declared.FiguresFound.{FiguresFound}
 use Rattle.brake.specs.declared.FiguresFound.the-variants.{Given, NoFigures}
 use Rattle.brake.specs.Consist.{figuresOf}
 use Rattle.brake.proofs.Tests.{by-test}
 use Rattle.line.specs.declared.Settings.{Settings}
 use Rattle.line.specs.declared.Train.{Train}
 use Rattle.line.specs.declared.Table.{Table}
-use Rattle.line.specs.declared.Found.{Found}
 use Rattle.line.specs.declared.Found.the-variants.{At, Nothing}
 use Rattle.line.specs.declared.Act.{Act}
 use Rattle.line.specs.declared.Act.the-variants.{Report, Extend, CallBack, Hold, Lift}
@@ -27,7 +25,7 @@ use Rattle.line.specs.Ranges.{settingsInRange, idInRange, startInRange, 
 use Rattle.line.specs.Table.{blankTrain, places, emptyTable, findOf, trainAt, aheadOf, withTrain, withLast, withoutFirst}
 use Rattle.line.specs.Report.{reachOf, reported, reportAllowed}
 use Rattle.line.specs.Calls.{stepsOf, withinLimit, entering, authorised, isRepeat, extended, isOld, calledBack, callBackAllowed, marked, acted, mayLeave}
-use Rattle.line.specs.Checks.{firstOf, isFound}
+use Rattle.line.specs.Checks.{firstOf}
 use Rattle.line.specs.Step.{outcome, refused, noSettings, openStep, enterStep, actStep, ownStep, takeOffStep, step}
 
 -- ---- open

@@ -2,7 +2,6 @@
 -- Assumes nothing.
 use Prim.Native.Nat.{ℕ, _+_, _≤_}
 use mathlib.Core.Bool.{Bool, true, false, cond, not, _&&_}
-use mathlib.Core.Logic.{inl, inr}
 use mathlib.Core.Option.{Option, none}
 use mathlib.Core.Path.{_≡_, refl}
 use native.Mathlib.Nat.{le-refl, le-trans}
@@ -11,11 +10,9 @@ use borrow.Author.Tests.{not-false}
 use Rattle.brake.specs.declared.Figures.{Figures}
 use Rattle.brake.specs.Consist.{Sound}
 use Rattle.brake.proofs.Tests.{by-test}
-use Rattle.motion.specs.declared.Motion.{Motion}
-use Rattle.motion.specs.declared.Order.the-variants.{Brake}
 use Rattle.motion.proofs.Cycles.{full-stands}
 use Rattle.motion.proofs.Domination.{head-reach, reach-stands}
-use Rattle.motion.proofs.Orders.{MayOrder, order-keeps, Within, within-entering, within-report}
+use Rattle.motion.proofs.Orders.{order-keeps, Within, within-entering, within-report}
 use Rattle.line.specs.declared.Settings.{Settings}
 use Rattle.line.specs.declared.Train.{Train}
 use Rattle.line.specs.declared.Act.{Act}

@@ -3,11 +3,9 @@
 use mathlib.Core.Path.{_≡_, sym, _∙_}
 use native.Mathlib.Omega.{arith}
 use borrow.Author.Tests.{not-true, not-false}
-use mathlib.Core.Bool.{true, false}
 use Rattle.brake.specs.declared.FiguresFound.the-variants.{Given}
 use Rattle.brake.specs.Consist.{figuresOf}
 use Rattle.brake.proofs.Consist.{given-length}
-use Rattle.line.specs.Ranges.{idInRange, startInRange}
 use Rattle.line.proofs.Steps.{enter-unfit, enter-fit, enter-bad}
 use borrow.Author.Needs.{needs}
 use Rattle.line.proofs.enter.Statement.{statement}

@@ -1,9 +1,8 @@
 -- `line::enter_with` meets its contract.
 -- Assumes nothing.
-use mathlib.Core.Path.{_≡_, sym, _∙_}
+use mathlib.Core.Path.{_≡_, sym, _∙_, ap}
 use native.Mathlib.Omega.{arith}
 use borrow.Author.Tests.{not-true, not-false}
-use mathlib.Core.Path.{refl, ap}
 use Prim.Native.Nat.{ℕ, _+_}
 use Rattle.line.specs.declared.Found.the-variants.{Nothing}
 use Rattle.line.specs.Table.{findOf, aheadOf}

@@ -1,15 +1,13 @@
 -- `line::extend` meets its contract.
 -- Assumes nothing.
 use Prim.Native.Nat.{_<_}
-use Prim.Native.Nat.{_+_}
 use mathlib.Core.Path.{_≡_, sym, _∙_}
-use mathlib.Core.Bool.{true, false}
+use mathlib.Core.Bool.{true}
 use native.Mathlib.Omega.{arith}
 use lib.ListN.{length}
 use borrow.Author.Tests.{not-true, not-false}
 use Rattle.line.specs.declared.Found.the-variants.{At}
-use Rattle.line.specs.Table.{findOf, aheadOf}
-use Rattle.line.specs.Calls.{withinLimit}
+use Rattle.line.specs.Table.{findOf}
 use Rattle.line.specs.Ranges.{requestInRange}
 use Rattle.line.proofs.Places.{long, found-place}
 use Rattle.line.proofs.Steps.{own-unknown, extend-bad, extend-old, extend-other, extend-repeat, extend-beyond, extend-new}

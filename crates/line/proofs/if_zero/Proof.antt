@@ -1,6 +1,5 @@
 -- `line::if_zero` meets its contract.
 -- Assumes nothing.
-use mathlib.Core.Path.{sym}
 use borrow.Author.Tests.{eq-eqb, ne-eqb}
 use Rattle.line.specs.Codes.{allZero, ifZero}
 use Rattle.line.proofs.if_zero.Statement.{statement}

@@ -1,6 +1,6 @@
 -- `line::is_allowed` meets its contract.
 -- Assumes nothing.
-use mathlib.Core.Path.{sym, ap, _∙_}
+use mathlib.Core.Path.{sym, ap}
 use native.Mathlib.Omega.{arith}
 use Rattle.motion.specs.declared.Motion.{Motion}
 use Rattle.line.proofs.Records.{allowed-behind, allowed-beyond, allowed-speed}

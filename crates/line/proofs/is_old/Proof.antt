@@ -1,7 +1,6 @@
 -- `line::is_old` meets its contract.
 -- Assumes nothing.
 use borrow.Author.Tests.{le-leb, lt-leb}
-use native.Mathlib.Omega.{arith}
 use Rattle.line.specs.Calls.{isOld}
 use Rattle.line.proofs.is_old.Statement.{statement}
 use Rattle.line.proofs.is_old.Tie as tie

@@ -2,7 +2,6 @@
 -- Assumes nothing.
 use mathlib.Core.Path.{sym, ap, _∙_}
 use borrow.Author.Tests.{eq-eqb, ne-eqb, not-true, not-false}
-use Rattle.motion.specs.declared.Order.{Order}
 use Rattle.line.specs.Calls.{isBrake, mayLeave}
 use borrow.Author.Needs.{needs}
 use Rattle.line.proofs.may_leave.Statement.{statement}

@@ -1,6 +1,5 @@
 -- `line::order_after` meets its contract.
 -- Assumes nothing.
-use mathlib.Core.Path.{sym}
 use Rattle.line.specs.Report.{orderAfter}
 use borrow.Author.Needs.{needs}
 use Rattle.line.proofs.order_after.Statement.{statement}

@@ -1,6 +1,6 @@
 -- `line::report_on` meets its contract.
 -- Assumes nothing.
-use mathlib.Core.Path.{sym, _∙_}
+use mathlib.Core.Path.{_∙_}
 use Rattle.line.specs.Report.{reported}
 use Rattle.line.proofs.Records.{report-passed}
 use borrow.Author.Needs.{needs}

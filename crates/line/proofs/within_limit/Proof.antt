@@ -1,10 +1,9 @@
 -- `line::within_limit` meets its contract.
 -- Assumes nothing.
-use Prim.Native.Nat.{ℕ, _+_, _^_, _<_}
+use Prim.Native.Nat.{ℕ, _+_}
 use mathlib.Core.Bool.{true, false}
 use mathlib.Core.Path.{_≡_, sym, _∙_}
 use native.Mathlib.Omega.{arith}
-use borrow.Author.Tests.{leb-true}
 use Rattle.line.proofs.Limit.{limit-first, limit-none, limit-room}
 use borrow.Author.Needs.{needs}
 use Rattle.line.proofs.within_limit.Statement.{statement}

@@ -1,10 +1,9 @@
 -- `line::without_first` meets its contract.
 -- Assumes nothing.
 use Prim.Native.Nat.{_≤_, _-_}
-use mathlib.Core.Path.{_≡_, refl, sym, _∙_}
+use mathlib.Core.Path.{_≡_, refl}
 use native.Mathlib.Omega.{arith}
 use lib.ListN.{length}
-use Rattle.line.specs.declared.Table.{Table}
 use Rattle.line.proofs.Places.{long, upTo, up-next, up-last}
 use borrow.Author.Needs.{needs}
 use Rattle.line.proofs.without_first.Statement.{statement}
