@@ -3,7 +3,7 @@
 use Prim.Native.Nat.{ℕ}
 use mathlib.Core.Path.{_≡_, refl}
 use borrow.Author.Tests.{ne-eqb}
-use Rattle.line.specs.declared.Act.the-variants.{Report, Extend, CallBack, Hold, Lift}
+use Rattle.train.specs.declared.Act.the-variants.{Report, Extend, CallBack, Hold, Lift}
 use Rattle.line.specs.declared.Call.the-variants.{Enter, Own, TakeOff}
 use Rattle.line.specs.declared.CallRead.the-variants.{Read, Unreadable}
 use Rattle.line.specs.Codes.{ifZero, callOf}

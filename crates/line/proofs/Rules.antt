@@ -23,27 +23,28 @@ use Rattle.motion.specs.declared.Order.the-variants.{Drive, Brake}
 use Rattle.motion.specs.Orders.{capFits, orderFor}
 use Rattle.motion.proofs.Greatest.{IsGreatest, Chosen, greatest-chosen, greatest-only}
 use Rattle.motion.proofs.Orders.{MayOrder, fits-below, ordered-cap}
-use Rattle.line.specs.declared.Train.{Train}
-use Rattle.line.specs.declared.Table.{Table}
-use Rattle.line.specs.declared.Found.{Found}
-use Rattle.line.specs.declared.Found.the-variants.{At, Nothing}
-use Rattle.line.specs.declared.Act.{Act}
-use Rattle.line.specs.declared.Act.the-variants.{Report, Extend, CallBack, Hold, Lift}
+use Rattle.train.specs.declared.Train.{Train}
+use Rattle.table.specs.declared.Table.{Table}
+use Rattle.table.specs.declared.Found.{Found}
+use Rattle.table.specs.declared.Found.the-variants.{At, Nothing}
+use Rattle.train.specs.declared.Act.{Act}
+use Rattle.train.specs.declared.Act.the-variants.{Report, Extend, CallBack, Hold, Lift}
 use Rattle.line.specs.declared.Call.{Call}
 use Rattle.line.specs.declared.Call.the-variants.{Enter, Own, TakeOff}
-use Rattle.line.specs.declared.Refusal.{Refusal}
-use Rattle.line.specs.declared.Refusal.the-variants.{NoTrack}
+use Rattle.train.specs.declared.Refusal.{Refusal}
+use Rattle.train.specs.declared.Refusal.the-variants.{NoTrack}
 use Rattle.line.specs.declared.Answer.the-variants.{Entered, Ordered, Extended, Refused}
 use Rattle.line.specs.declared.Outcome.{Outcome}
-use Rattle.line.specs.Ranges.{requestInRange}
-use Rattle.line.specs.Table.{blankTrain, onLine, placeIn, findOf, trainAt, aheadOf, withTrain}
-use Rattle.line.specs.Report.{motionAfter, goalOf, orderAfter, reported, reportAllowed}
-use Rattle.line.specs.Calls.{withinLimit, authorised, isOld}
+use Rattle.train.specs.Ranges.{requestInRange}
+use Rattle.table.specs.Table.{blankTrain, onLine, placeIn, findOf, trainAt, aheadOf, withTrain}
+use Rattle.train.specs.Report.{motionAfter, goalOf, orderAfter, reported, reportAllowed}
+use Rattle.train.specs.Acts.{withinLimit, authorised, isOld}
 use Rattle.line.specs.Answers.{numbers, numbersOf}
-use Rattle.line.specs.Checks.{firstOf, enterChecks, actChecks, takeOffChecks}
+use Rattle.train.specs.Checks.{firstOf, actChecks}
+use Rattle.line.specs.Checks.{enterChecks, takeOffChecks}
 use Rattle.line.specs.Step.{outcome, judged, refused, enterStep, actAnswer, actStep, ownStep, takeOffStep, step}
-use Rattle.line.proofs.Places.{found-among}
-use Rattle.line.proofs.Records.{computable-bounded, report-passed, held-brakes, free-order, may-order}
+use Rattle.table.proofs.Places.{found-among}
+use Rattle.train.proofs.Records.{computable-bounded, report-passed, held-brakes, free-order, may-order}
 use Rattle.line.proofs.Steps.{own-unknown, report-refused, report-taken, extend-bad, extend-old, extend-other, extend-repeat, extend-beyond, extend-new}
 
 -- ---- a refusal gives its number and zeros, and the whole table stays

@@ -11,21 +11,21 @@ use Rattle.brake.specs.declared.Figures.{Figures}
 use Rattle.brake.specs.declared.FiguresFound.the-variants.{Given, NoFigures}
 use Rattle.brake.specs.Consist.{figuresOf}
 use Rattle.brake.proofs.Tests.{by-test}
-use Rattle.line.specs.declared.Settings.{Settings}
-use Rattle.line.specs.declared.Train.{Train}
-use Rattle.line.specs.declared.Table.{Table}
-use Rattle.line.specs.declared.Found.the-variants.{At, Nothing}
-use Rattle.line.specs.declared.Act.{Act}
-use Rattle.line.specs.declared.Act.the-variants.{Report, Extend, CallBack, Hold, Lift}
+use Rattle.train.specs.declared.Settings.{Settings}
+use Rattle.train.specs.declared.Train.{Train}
+use Rattle.table.specs.declared.Table.{Table}
+use Rattle.table.specs.declared.Found.the-variants.{At, Nothing}
+use Rattle.train.specs.declared.Act.{Act}
+use Rattle.train.specs.declared.Act.the-variants.{Report, Extend, CallBack, Hold, Lift}
 use Rattle.line.specs.declared.Call.the-variants.{Enter, Own, TakeOff}
-use Rattle.line.specs.declared.Refusal.the-variants.{BadSetting, BadEntry, OnLine, LineFull, BadHead, NoTrain, NotAllowed, BadRequest, OldNumber, OtherLength, NoTrack, BadPlace, NotLeaving}
+use Rattle.train.specs.declared.Refusal.the-variants.{BadSetting, BadEntry, OnLine, LineFull, BadHead, NoTrain, NotAllowed, BadRequest, OldNumber, OtherLength, NoTrack, BadPlace, NotLeaving}
 use Rattle.line.specs.declared.Answer.the-variants.{Entered, Ordered, Extended, Done}
 use Rattle.line.specs.declared.Outcome.{Outcome}
-use Rattle.line.specs.Ranges.{settingsInRange, idInRange, startInRange, requestInRange}
-use Rattle.line.specs.Table.{blankTrain, places, emptyTable, findOf, trainAt, aheadOf, withTrain, withLast, withoutFirst}
-use Rattle.line.specs.Report.{reachOf, reported, reportAllowed}
-use Rattle.line.specs.Calls.{stepsOf, withinLimit, entering, authorised, isRepeat, extended, isOld, calledBack, callBackAllowed, marked, acted, mayLeave}
-use Rattle.line.specs.Checks.{firstOf}
+use Rattle.train.specs.Ranges.{settingsInRange, idInRange, startInRange, requestInRange}
+use Rattle.table.specs.Table.{blankTrain, places, emptyTable, findOf, trainAt, aheadOf, withTrain, withLast, withoutFirst}
+use Rattle.train.specs.Report.{reachOf, reported, reportAllowed}
+use Rattle.train.specs.Acts.{stepsOf, withinLimit, entering, authorised, isRepeat, extended, isOld, calledBack, callBackAllowed, marked, acted, mayLeave}
+use Rattle.train.specs.Checks.{firstOf}
 use Rattle.line.specs.Step.{outcome, refused, noSettings, openStep, enterStep, actStep, ownStep, takeOffStep, step}
 
 -- ---- open

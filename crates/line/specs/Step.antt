@@ -5,25 +5,26 @@ use mathlib.Core.Option.{Option, none, some}
 use Rattle.brake.specs.declared.FiguresFound.{FiguresFound}
 use Rattle.brake.specs.declared.FiguresFound.the-variants.{Given, NoFigures}
 use Rattle.brake.specs.Consist.{figuresOf}
-use Rattle.line.specs.declared.Settings.{Settings}
-use Rattle.line.specs.declared.Train.{Train}
-use Rattle.line.specs.declared.Table.{Table}
-use Rattle.line.specs.declared.Found.{Found}
-use Rattle.line.specs.declared.Found.the-variants.{At, Nothing}
-use Rattle.line.specs.declared.Act.{Act}
-use Rattle.line.specs.declared.Act.the-variants.{Report, Extend, CallBack, Hold, Lift}
+use Rattle.train.specs.declared.Settings.{Settings}
+use Rattle.train.specs.declared.Train.{Train}
+use Rattle.table.specs.declared.Table.{Table}
+use Rattle.table.specs.declared.Found.{Found}
+use Rattle.table.specs.declared.Found.the-variants.{At, Nothing}
+use Rattle.train.specs.declared.Act.{Act}
+use Rattle.train.specs.declared.Act.the-variants.{Report, Extend, CallBack, Hold, Lift}
 use Rattle.line.specs.declared.Call.{Call}
 use Rattle.line.specs.declared.Call.the-variants.{Enter, Own, TakeOff}
-use Rattle.line.specs.declared.Refusal.{Refusal}
-use Rattle.line.specs.declared.Refusal.the-variants.{BadSetting, BadEntry, NoTrain}
+use Rattle.train.specs.declared.Refusal.{Refusal}
+use Rattle.train.specs.declared.Refusal.the-variants.{BadSetting, BadEntry, NoTrain}
 use Rattle.line.specs.declared.Answer.{Answer}
 use Rattle.line.specs.declared.Answer.the-variants.{Entered, Ordered, Extended, Done, Refused}
 use Rattle.line.specs.declared.Outcome.{Outcome}
-use Rattle.line.specs.Ranges.{settingsInRange}
-use Rattle.line.specs.Table.{emptyTable, findOf, trainAt, aheadOf, withTrain, withLast, withoutFirst}
-use Rattle.line.specs.Report.{reachOf}
-use Rattle.line.specs.Calls.{entering, isRepeat, acted}
-use Rattle.line.specs.Checks.{firstOf, enterChecks, actChecks, takeOffChecks}
+use Rattle.train.specs.Ranges.{settingsInRange}
+use Rattle.table.specs.Table.{emptyTable, findOf, trainAt, aheadOf, withTrain, withLast, withoutFirst}
+use Rattle.train.specs.Report.{reachOf}
+use Rattle.train.specs.Acts.{entering, isRepeat, acted}
+use Rattle.train.specs.Checks.{firstOf, actChecks}
+use Rattle.line.specs.Checks.{enterChecks, takeOffChecks}
 
 abbrev pub outcome : Answer → Table → Outcome
 outcome a t = record { answer = a; table = t }

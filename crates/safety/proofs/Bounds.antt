@@ -16,21 +16,21 @@ use Rattle.motion.specs.Bounds.{greatestLineEnd, greatestCeiling, greatestTract
 use Rattle.motion.proofs.Bounds.{bounds-cap, bounds-hold}
 use Rattle.motion.proofs.Domination.{worst-reach}
 use Rattle.motion.proofs.Orders.{within-report, within-bounded}
-use Rattle.line.specs.declared.Settings.{Settings}
-use Rattle.line.specs.declared.Train.{Train}
-use Rattle.line.specs.declared.Table.{Table}
+use Rattle.train.specs.declared.Settings.{Settings}
+use Rattle.train.specs.declared.Train.{Train}
+use Rattle.table.specs.declared.Table.{Table}
 use Rattle.line.specs.declared.Call.{Call}
 use Rattle.line.specs.declared.Answer.the-variants.{Done}
-use Rattle.line.specs.Ranges.{between, settingsInRange}
-use Rattle.line.specs.Table.{blankTrain, trainAt}
-use Rattle.line.specs.Report.{reachOf, allowed, motionAfter, computable, reportAllowed}
-use Rattle.line.specs.Calls.{callBackAllowed}
+use Rattle.train.specs.Ranges.{between, settingsInRange}
+use Rattle.table.specs.Table.{blankTrain, trainAt}
+use Rattle.train.specs.Report.{reachOf, allowed, motionAfter, computable, reportAllowed}
+use Rattle.train.specs.Acts.{callBackAllowed}
 use Rattle.line.specs.Step.{outcome, openStep}
 use Rattle.safety.specs.History.{history, after, Stay, stays}
 use Rattle.safety.specs.Claim.{recordOf}
-use Rattle.line.proofs.Ranges.{between-both}
+use Rattle.train.proofs.Ranges.{between-both}
 use Rattle.line.proofs.Steps.{open-made}
-use Rattle.line.proofs.Checks.{allowed-no-worse}
+use Rattle.train.proofs.Checks.{allowed-no-worse}
 use Rattle.safety.proofs.Train.{Guarded, guarded-head}
 use Rattle.safety.proofs.Line.{Lined, Wider, wider-end}
 use Rattle.safety.proofs.Told.{told-count, told-train}

@@ -15,28 +15,30 @@ use Rattle.brake.specs.declared.FiguresFound.the-variants.{Given, NoFigures}
 use Rattle.brake.specs.Consist.{figuresOf}
 use Rattle.brake.proofs.Tests.{both}
 use Rattle.brake.proofs.Consist.{given-sound}
-use Rattle.line.specs.declared.Settings.{Settings}
-use Rattle.line.specs.declared.Table.{Table}
-use Rattle.line.specs.declared.Found.{Found}
-use Rattle.line.specs.declared.Found.the-variants.{At, Nothing}
-use Rattle.line.specs.declared.Act.{Act}
+use Rattle.train.specs.declared.Settings.{Settings}
+use Rattle.table.specs.declared.Table.{Table}
+use Rattle.table.specs.declared.Found.{Found}
+use Rattle.table.specs.declared.Found.the-variants.{At, Nothing}
+use Rattle.train.specs.declared.Act.{Act}
 use Rattle.line.specs.declared.Call.{Call}
 use Rattle.line.specs.declared.Call.the-variants.{Enter, Own, TakeOff}
-use Rattle.line.specs.declared.Refusal.{Refusal}
-use Rattle.line.specs.declared.Refusal.the-variants.{BadEntry, NoTrain}
+use Rattle.train.specs.declared.Refusal.{Refusal}
+use Rattle.train.specs.declared.Refusal.the-variants.{BadEntry, NoTrain}
 use Rattle.line.specs.declared.Answer.the-variants.{Entered, Done, Refused}
 use Rattle.line.specs.declared.Outcome.{Outcome}
-use Rattle.line.specs.Table.{places, emptyTable, findOf, trainAt, aheadOf, withTrain, withLast, withoutFirst}
-use Rattle.line.specs.Calls.{stepsOf, entering, acted}
-use Rattle.line.specs.Checks.{firstOf, enterChecks, actChecks, takeOffChecks}
+use Rattle.table.specs.Table.{places, emptyTable, findOf, trainAt, aheadOf, withTrain, withLast, withoutFirst}
+use Rattle.train.specs.Acts.{stepsOf, entering, acted}
+use Rattle.train.specs.Checks.{firstOf, actChecks}
+use Rattle.line.specs.Checks.{enterChecks, takeOffChecks}
 use Rattle.line.specs.Step.{outcome, judged, openStep, enterStep, actAnswer, actStep, ownStep, takeOffStep, step}
 use Rattle.safety.specs.History.{Event, history, after, stayFrom, stays, heldFor}
-use Rattle.line.proofs.Checks.{passed, not-found, limit-tested, first-leaves}
+use Rattle.train.proofs.Checks.{passed, limit-tested, first-leaves}
+use Rattle.table.proofs.Places.{not-found}
 use Rattle.safety.proofs.Stays.{newStay, event, act-accepted, done-accepted, stays-refused, stays-enter, stays-kept}
 use Rattle.safety.proofs.Train.{guarded-entering}
 use Rattle.safety.proofs.Records.{record-new}
 use Rattle.line.proofs.Steps.{open-made}
-use Rattle.line.proofs.Trains.{sized-empty, line-with, sized-with, line-last, sized-last, line-without-first, sized-without-first}
+use Rattle.table.proofs.Trains.{sized-empty, line-with, sized-with, line-last, sized-last, line-without-first, sized-without-first}
 use Rattle.safety.proofs.Finding.{IsAt}
 use Rattle.safety.proofs.Line.{Steady, aheadIn, lined-act, lined-enter, lined-off}
 use Rattle.safety.proofs.Told.{Told, told-count, told-train, told-ahead, told-absent, told-place, told-below}

@@ -6,8 +6,8 @@ use mathlib.Core.Option.{Option, none, some}
 use mathlib.Core.List.{List, [], _∷_, _++_, foldl-append}
 use mathlib.Core.Path.{_≡_, refl, sym, _∙_}
 use native.Mathlib.Omega.{arith}
-use Rattle.line.specs.declared.Act.{Act}
-use Rattle.line.specs.declared.Act.the-variants.{Report, Extend, CallBack, Hold, Lift}
+use Rattle.train.specs.declared.Act.{Act}
+use Rattle.train.specs.declared.Act.the-variants.{Report, Extend, CallBack, Hold, Lift}
 use Rattle.line.specs.declared.Numbers.{Numbers}
 use Rattle.safety.specs.History.{Deed, Stay, headBy, headOf, speedBy, speedOf, authorityBy, authorityOf, endOf, figuresFor, orderingBy, orderingOf, hasLift, reportsIn, heldFor}
 use Rattle.safety.specs.Claim.{isHeld, recordOf}

@@ -6,8 +6,8 @@ use mathlib.Core.List.{List, [], _∷_}
 use mathlib.Core.Path.{_≡_, subst}
 use native.Mathlib.Omega.{arith}
 use Rattle.motion.proofs.Slowing.{slowed-stands}
-use Rattle.line.specs.declared.Settings.{Settings}
-use Rattle.line.specs.declared.Table.{Table}
+use Rattle.train.specs.declared.Settings.{Settings}
+use Rattle.table.specs.declared.Table.{Table}
 use Rattle.line.specs.declared.Call.{Call}
 use Rattle.line.specs.declared.Answer.the-variants.{Done}
 use Rattle.line.specs.Step.{outcome, openStep}

@@ -9,8 +9,8 @@ use lib.Dec.{eqb}
 use lib.ListN.{length}
 use borrow.Author.Tests.{eqb-true, eqb-false}
 use Rattle.brake.proofs.Tests.{by-test}
-use Rattle.line.specs.declared.Found.the-variants.{At, Nothing}
-use Rattle.line.specs.Table.{placeIn}
+use Rattle.table.specs.declared.Found.the-variants.{At, Nothing}
+use Rattle.table.specs.Table.{placeIn}
 use Rattle.safety.specs.History.{Event, hasLeft, Stay}
 use Rattle.safety.specs.Claim.{recordOf}
 use Rattle.safety.proofs.Stays.{keptStay, keptStays}

@@ -12,18 +12,18 @@ use Rattle.motion.specs.declared.Order.the-variants.{Brake}
 use Rattle.motion.specs.Orders.{worstCase}
 use Rattle.motion.proofs.Domination.{NoWorse}
 use Rattle.motion.proofs.Slowing.{Slowed, slowed-start, slowed-brake}
-use Rattle.line.specs.declared.Settings.{Settings}
-use Rattle.line.specs.declared.Train.{Train}
-use Rattle.line.specs.declared.Act.{Act}
-use Rattle.line.specs.declared.Act.the-variants.{Report, Extend, CallBack, Hold, Lift}
+use Rattle.train.specs.declared.Settings.{Settings}
+use Rattle.train.specs.declared.Train.{Train}
+use Rattle.train.specs.declared.Act.{Act}
+use Rattle.train.specs.declared.Act.the-variants.{Report, Extend, CallBack, Hold, Lift}
 use Rattle.line.specs.declared.Answer.{Answer}
-use Rattle.line.specs.Report.{allowed, motionAfter, reported}
-use Rattle.line.specs.Calls.{isRepeat, extended, authorised, acted}
-use Rattle.line.specs.Checks.{firstOf, actChecks}
+use Rattle.train.specs.Report.{allowed, motionAfter, reported}
+use Rattle.train.specs.Acts.{isRepeat, extended, authorised, acted}
+use Rattle.train.specs.Checks.{firstOf, actChecks}
 use Rattle.safety.specs.History.{hasLift, reportsIn, heldFor}
 use Rattle.safety.specs.Claim.{isHeld}
-use Rattle.line.proofs.Records.{held-brakes}
-use Rattle.line.proofs.Checks.{passed, report-allowed, allowed-no-worse}
+use Rattle.train.proofs.Records.{held-brakes}
+use Rattle.train.proofs.Checks.{passed, report-allowed, allowed-no-worse}
 use Rattle.safety.proofs.Deeds.{heldOn}
 use Rattle.safety.proofs.Records.{deed}
 use Rattle.safety.proofs.Train.{Guarded, guarded-report}

@@ -7,19 +7,19 @@ use mathlib.Core.Path.{_≡_, refl, sym, _∙_, ap, subst}
 use native.Mathlib.Omega.{arith}
 use lib.ListN.{length, getD, set, drop}
 use borrow.Author.Tests.{eq-eqb, ne-eqb}
-use Rattle.line.specs.declared.Settings.{Settings}
-use Rattle.line.specs.declared.Train.{Train}
-use Rattle.line.specs.declared.Act.{Act}
+use Rattle.train.specs.declared.Settings.{Settings}
+use Rattle.train.specs.declared.Train.{Train}
+use Rattle.train.specs.declared.Act.{Act}
 use Rattle.line.specs.declared.Call.the-variants.{Own, TakeOff}
 use Rattle.line.specs.declared.Answer.{Answer}
 use Rattle.line.specs.declared.Answer.the-variants.{Done}
-use Rattle.line.specs.Table.{blankTrain}
-use Rattle.line.specs.Calls.{stepsOf, acted}
-use Rattle.line.specs.Checks.{firstOf, actChecks}
+use Rattle.table.specs.Table.{blankTrain}
+use Rattle.train.specs.Acts.{stepsOf, acted}
+use Rattle.train.specs.Checks.{firstOf, actChecks}
 use Rattle.line.specs.Step.{actAnswer}
 use Rattle.safety.specs.History.{Event, deedIn, takesOff, Stay, heldFor}
 use Rattle.safety.specs.Claim.{recordOf}
-use Rattle.line.proofs.Checks.{InLimit}
+use Rattle.train.proofs.Checks.{InLimit}
 use Rattle.safety.proofs.Stays.{keptStay, keptStays, event, act-accepted, done-accepted, kept-accepted}
 use Rattle.safety.proofs.Deeds.{held-deed}
 use Rattle.safety.proofs.Records.{record-length, did, record-acted}

@@ -14,14 +14,14 @@ use Rattle.motion.specs.declared.Motion.{Motion}
 use Rattle.motion.specs.declared.Order.{Order}
 use Rattle.motion.specs.declared.Order.the-variants.{Drive, Brake}
 use Rattle.motion.specs.Orders.{worstCase}
-use Rattle.line.specs.declared.Settings.{Settings}
-use Rattle.line.specs.declared.Train.{Train}
-use Rattle.line.specs.declared.Act.{Act}
-use Rattle.line.specs.declared.Act.the-variants.{Report, Extend, CallBack, Hold, Lift}
+use Rattle.train.specs.declared.Settings.{Settings}
+use Rattle.train.specs.declared.Train.{Train}
+use Rattle.train.specs.declared.Act.{Act}
+use Rattle.train.specs.declared.Act.the-variants.{Report, Extend, CallBack, Hold, Lift}
 use Rattle.line.specs.declared.Answer.{Answer}
 use Rattle.line.specs.declared.Answer.the-variants.{Ordered, Done}
-use Rattle.line.specs.Report.{reported}
-use Rattle.line.specs.Calls.{entering, isRepeat, extended, authorised, acted}
+use Rattle.train.specs.Report.{reported}
+use Rattle.train.specs.Acts.{entering, isRepeat, extended, authorised, acted}
 use Rattle.line.specs.Answers.{numbersOf}
 use Rattle.line.specs.Step.{actAnswer}
 use Rattle.safety.specs.History.{Deed, Stay, headOf, speedOf, Authority, authorityBy, authorityOf, figuresFor, levelAfter, orderIn, orderingOf, hasLift, heldFor}

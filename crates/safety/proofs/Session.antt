@@ -6,11 +6,11 @@ use Rattle.brake.specs.Consist.{lengthInRange, carOf, fullBrake, applicationTim
 use Rattle.motion.specs.Motion.{brakeTravel, brakeSpeed, nextLevel, driveTravel, driveSpeed, stands, brakedCycle, firstCycles, enoughCycles, brakedRun, totalTravel, stoppingDistance}
 use Rattle.motion.specs.Orders.{stoppingPlace, capFits, greatest, orderFor}
 use Rattle.motion.specs.Bounds.{inBounds}
-use Rattle.line.specs.Ranges.{between, settingsInRange, idInRange, startInRange, requestInRange}
-use Rattle.line.specs.Table.{placeIn, findOf, aheadOf}
-use Rattle.line.specs.Report.{allowed, orderAfter, reported, computable, reportAllowed}
-use Rattle.line.specs.Calls.{stepsOf, withinLimit, isRepeat, extended, isOld, callBackAllowed, acted, mayLeave}
-use Rattle.line.specs.Checks.{firstOf}
+use Rattle.train.specs.Ranges.{between, settingsInRange, idInRange, startInRange, requestInRange}
+use Rattle.table.specs.Table.{placeIn, findOf, aheadOf}
+use Rattle.train.specs.Report.{allowed, orderAfter, reported, computable, reportAllowed}
+use Rattle.train.specs.Acts.{stepsOf, withinLimit, isRepeat, extended, isOld, callBackAllowed, acted, mayLeave}
+use Rattle.train.specs.Checks.{firstOf}
 use Rattle.line.specs.Step.{openStep, enterStep, actStep, ownStep, takeOffStep, step}
 use Rattle.safety.specs.History.{history, isAccepted, deedIn, deedsIn, takesOff, hasLeft, stayFrom, stays, headOf, speedOf, rearOf, authorityOf, hasLift, reportsIn, heldFor}
 use Rattle.safety.specs.Session.{sessionLine, printedBy, sessionCalls, sessionAnswers, wordsAfter, secondCalls, secondWords}

@@ -6,14 +6,14 @@ use mathlib.Core.List.{List, [], _∷_, map}
 use mathlib.Core.Path.{_≡_, refl, sym, _∙_, ap, subst}
 use native.Mathlib.Omega.{arith}
 use lib.ListN.{length, getD, length-map}
-use Rattle.line.specs.declared.Settings.{Settings}
-use Rattle.line.specs.declared.Train.{Train}
-use Rattle.line.specs.declared.Table.{Table}
-use Rattle.line.specs.declared.Found.the-variants.{At, Nothing}
-use Rattle.line.specs.Table.{blankTrain, onLine, findOf, trainAt, aheadOf}
+use Rattle.train.specs.declared.Settings.{Settings}
+use Rattle.train.specs.declared.Train.{Train}
+use Rattle.table.specs.declared.Table.{Table}
+use Rattle.table.specs.declared.Found.the-variants.{At, Nothing}
+use Rattle.table.specs.Table.{blankTrain, onLine, findOf, trainAt, aheadOf}
 use Rattle.safety.specs.History.{Event, Stay, stays}
 use Rattle.safety.specs.Claim.{recordOf}
-use Rattle.line.proofs.Trains.{Sized, line-length, train-on-line}
+use Rattle.table.proofs.Trains.{Sized, line-length, train-on-line}
 use Rattle.safety.proofs.Finding.{Absent, IsAt, place-below, missing, found}
 use Rattle.safety.proofs.Line.{Lined, aheadIn}
 

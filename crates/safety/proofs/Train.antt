@@ -13,15 +13,15 @@ use Rattle.brake.proofs.Tests.{by-test}
 use Rattle.motion.proofs.Cycles.{full-stands}
 use Rattle.motion.proofs.Domination.{head-reach, reach-stands}
 use Rattle.motion.proofs.Orders.{order-keeps, Within, within-entering, within-report}
-use Rattle.line.specs.declared.Settings.{Settings}
-use Rattle.line.specs.declared.Train.{Train}
-use Rattle.line.specs.declared.Act.{Act}
-use Rattle.line.specs.declared.Act.the-variants.{Report, Extend, CallBack, Hold, Lift}
-use Rattle.line.specs.Report.{reachOf, allowed, motionAfter, goalOf, orderAfter, reported}
-use Rattle.line.specs.Calls.{stepsOf, withinLimit, entering, isRepeat, extended, authorised, marked, acted}
-use Rattle.line.specs.Checks.{firstOf, actChecks}
-use Rattle.line.proofs.Records.{may-order}
-use Rattle.line.proofs.Checks.{passed, InLimit, limit-tested, limit-below, report-allowed, call-back-allowed, allowed-head, allowed-no-worse}
+use Rattle.train.specs.declared.Settings.{Settings}
+use Rattle.train.specs.declared.Train.{Train}
+use Rattle.train.specs.declared.Act.{Act}
+use Rattle.train.specs.declared.Act.the-variants.{Report, Extend, CallBack, Hold, Lift}
+use Rattle.train.specs.Report.{reachOf, allowed, motionAfter, goalOf, orderAfter, reported}
+use Rattle.train.specs.Acts.{stepsOf, withinLimit, entering, isRepeat, extended, authorised, marked, acted}
+use Rattle.train.specs.Checks.{firstOf, actChecks}
+use Rattle.train.proofs.Records.{may-order}
+use Rattle.train.proofs.Checks.{passed, InLimit, limit-tested, limit-below, report-allowed, call-back-allowed, allowed-head, allowed-no-worse}
 
 -- A train behind `ahead`: its rear is on the line, its end within the limit and its reach within its end. Its figures and its
 -- motion are such as the laws of motion ask for.

@@ -7,12 +7,12 @@ use mathlib.Core.List.{List, [], _∷_, map}
 use lib.ListN.{length}
 use Rattle.motion.specs.Motion.{stands}
 use Rattle.motion.specs.Count.{cyclesToStand}
-use Rattle.line.specs.declared.Settings.{Settings}
-use Rattle.line.specs.declared.Train.{Train}
-use Rattle.line.specs.declared.Table.{Table}
+use Rattle.train.specs.declared.Settings.{Settings}
+use Rattle.train.specs.declared.Train.{Train}
+use Rattle.table.specs.declared.Table.{Table}
 use Rattle.line.specs.declared.Call.{Call}
-use Rattle.line.specs.Table.{onLine}
-use Rattle.line.specs.Calls.{stepsOf}
+use Rattle.table.specs.Table.{onLine}
+use Rattle.train.specs.Acts.{stepsOf}
 use Rattle.safety.specs.History.{Event, history, after, Stay, stays, headOf, speedOf, rearOf, authorityOf, endOf, figuresFor, orderingOf, heldFor}
 
 -- 1 + B/j + V/B, both rounded up

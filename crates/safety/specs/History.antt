@@ -11,13 +11,13 @@ use Rattle.brake.specs.Consist.{figuresOf}
 use Rattle.motion.specs.declared.Order.{Order}
 use Rattle.motion.specs.declared.Order.the-variants.{Drive, Brake}
 use Rattle.motion.specs.Motion.{nextLevel, releasedLevel}
-use Rattle.line.specs.declared.Table.{Table}
-use Rattle.line.specs.declared.Act.{Act}
-use Rattle.line.specs.declared.Act.the-variants.{Report, Extend, CallBack, Hold, Lift}
+use Rattle.table.specs.declared.Table.{Table}
+use Rattle.train.specs.declared.Act.{Act}
+use Rattle.train.specs.declared.Act.the-variants.{Report, Extend, CallBack, Hold, Lift}
 use Rattle.line.specs.declared.Call.{Call}
 use Rattle.line.specs.declared.Call.the-variants.{Enter, Own, TakeOff}
 use Rattle.line.specs.declared.Numbers.{Numbers}
-use Rattle.line.specs.Calls.{stepsOf}
+use Rattle.train.specs.Acts.{stepsOf}
 use Rattle.line.specs.Answers.{numbersOf}
 use Rattle.line.specs.Step.{step}
 

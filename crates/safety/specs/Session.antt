@@ -3,8 +3,8 @@
 use Prim.Native.Nat.{ℕ}
 use mathlib.Core.Option.{Option, none, some}
 use mathlib.Core.List.{List, [], _∷_, map}
-use Rattle.line.specs.declared.Settings.{Settings}
-use Rattle.line.specs.declared.Act.the-variants.{Report, Extend, CallBack, Hold, Lift}
+use Rattle.train.specs.declared.Settings.{Settings}
+use Rattle.train.specs.declared.Act.the-variants.{Report, Extend, CallBack, Hold, Lift}
 use Rattle.line.specs.declared.Call.{Call}
 use Rattle.line.specs.declared.Call.the-variants.{Enter, Own, TakeOff}
 use Rattle.line.specs.declared.Numbers.{Numbers}

@@ -4,9 +4,9 @@ use mathlib.Core.Path.{_≡_, sym, _∙_, ap}
 use native.Mathlib.Omega.{arith}
 use borrow.Author.Tests.{not-true, not-false}
 use Prim.Native.Nat.{ℕ, _+_}
-use Rattle.line.specs.declared.Found.the-variants.{Nothing}
-use Rattle.line.specs.Table.{findOf, aheadOf}
-use Rattle.line.specs.Calls.{withinLimit}
+use Rattle.table.specs.declared.Found.the-variants.{Nothing}
+use Rattle.table.specs.Table.{findOf, aheadOf}
+use Rattle.train.specs.Acts.{withinLimit}
 use Rattle.line.proofs.Steps.{enter-known, enter-full, enter-short, enter-beyond, enter-taken}
 use borrow.Author.Needs.{needs}
 use Rattle.line.proofs.enter_with.Statement.{statement}

@@ -6,10 +6,10 @@ use mathlib.Core.Bool.{true}
 use native.Mathlib.Omega.{arith}
 use lib.ListN.{length}
 use borrow.Author.Tests.{not-true, not-false}
-use Rattle.line.specs.declared.Found.the-variants.{At}
-use Rattle.line.specs.Table.{findOf}
-use Rattle.line.specs.Ranges.{requestInRange}
-use Rattle.line.proofs.Places.{long, found-place}
+use Rattle.table.specs.declared.Found.the-variants.{At}
+use Rattle.table.specs.Table.{findOf}
+use Rattle.train.specs.Ranges.{requestInRange}
+use Rattle.table.proofs.Places.{long, found-place}
 use Rattle.line.proofs.Steps.{own-unknown, extend-bad, extend-old, extend-other, extend-repeat, extend-beyond, extend-new}
 use borrow.Author.Needs.{needs}
 use Rattle.line.proofs.extend.Statement.{statement}

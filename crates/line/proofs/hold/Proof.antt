@@ -3,9 +3,9 @@
 use Prim.Native.Nat.{_<_}
 use mathlib.Core.Path.{_≡_, sym, _∙_}
 use lib.ListN.{length}
-use Rattle.line.specs.declared.Found.the-variants.{At}
-use Rattle.line.specs.Table.{findOf}
-use Rattle.line.proofs.Places.{long, found-place}
+use Rattle.table.specs.declared.Found.the-variants.{At}
+use Rattle.table.specs.Table.{findOf}
+use Rattle.table.proofs.Places.{long, found-place}
 use Rattle.line.proofs.Steps.{own-unknown, hold-taken}
 use borrow.Author.Needs.{needs}
 use Rattle.line.proofs.hold.Statement.{statement}

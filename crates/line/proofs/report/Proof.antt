@@ -5,11 +5,11 @@ use mathlib.Core.Path.{_≡_, sym, _∙_}
 use mathlib.Core.Bool.{true}
 use lib.ListN.{length}
 use borrow.Author.Tests.{not-true, not-false}
-use Rattle.line.specs.declared.Found.the-variants.{At}
-use Rattle.line.specs.Table.{findOf}
-use Rattle.line.specs.Report.{reportAllowed}
-use Rattle.line.proofs.Places.{long, found-place}
-use Rattle.line.proofs.Records.{reported-computable}
+use Rattle.table.specs.declared.Found.the-variants.{At}
+use Rattle.table.specs.Table.{findOf}
+use Rattle.train.specs.Report.{reportAllowed}
+use Rattle.table.proofs.Places.{long, found-place}
+use Rattle.train.proofs.Records.{reported-computable}
 use Rattle.line.proofs.Steps.{own-unknown, report-refused, report-taken}
 use borrow.Author.Needs.{needs}
 use Rattle.line.proofs.report.Statement.{statement}

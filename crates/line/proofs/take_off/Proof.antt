@@ -5,9 +5,9 @@ use mathlib.Core.Path.{_≡_, sym, _∙_}
 use lib.ListN.{length}
 use native.Mathlib.Omega.{arith}
 use borrow.Author.Tests.{not-true, not-false}
-use Rattle.line.specs.declared.Found.the-variants.{At}
-use Rattle.line.specs.Table.{findOf}
-use Rattle.line.proofs.Places.{long, found-place}
+use Rattle.table.specs.declared.Found.the-variants.{At}
+use Rattle.table.specs.Table.{findOf}
+use Rattle.table.proofs.Places.{long, found-place}
 use Rattle.line.proofs.Steps.{take-off-unknown, take-off-refused, take-off-taken}
 use borrow.Author.Needs.{needs}
 use Rattle.line.proofs.take_off.Statement.{statement}

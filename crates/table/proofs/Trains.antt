@@ -1,0 +1,59 @@
+-- The array of 32 places against the list of trains on the line: what is read at a place, and what an accepted call makes of both.
+-- Assumes nothing.
+use Prim.Native.Nat.{ℕ, zero, suc, _-_, _≤_, _<_}
+use mathlib.Core.List.{List, [], _∷_, _++_}
+use mathlib.Core.Path.{_≡_, refl, sym, _∙_}
+use native.Mathlib.Numerals.{add-one}
+use native.Mathlib.Omega.{arith}
+use lib.ListN.{length, getD, set, take, drop, length-append, length-drop, length-set}
+use lib.Seq.{length-take-le, getD-take, take-set-lt, take-suc-set, take-append-le}
+use Rattle.train.specs.declared.Settings.{Settings}
+use Rattle.train.specs.declared.Train.{Train}
+use Rattle.table.specs.declared.Table.{Table}
+use Rattle.table.specs.Table.{blankTrain, places, emptyTable, onLine, trainAt, withTrain, withLast, withoutFirst}
+
+-- every place is there, and no more are in use
+pub record Sized (t : Table) : Type 0 where
+  pub size : length (t .trains) ≡ places
+  pub count : t .count ≤ places
+
+pub sized-empty : (σ : Settings) → Sized (emptyTable σ)
+sized-empty σ = record { size = refl; count = omega arith }
+
+pub line-length : (t : Table) → Sized t → length (onLine t) ≡ t .count
+line-length t z = length-take-le (t .count) (t .trains) (omega arith)
+
+pub train-on-line : (t : Table) (i : ℕ) → i < t .count → trainAt t i ≡ getD (onLine t) i blankTrain
+train-on-line t i h = sym (getD-take (t .count) (t .trains) i blankTrain h)
+
+-- ---- another record at a place
+
+pub line-with : (t : Table) (i : ℕ) (x : Train) → i < t .count → onLine (withTrain t i x) ≡ set (onLine t) i x
+line-with t i x h = take-set-lt (t .count) (t .trains) i x h
+
+pub sized-with : (t : Table) (i : ℕ) (x : Train) → Sized t → Sized (withTrain t i x)
+sized-with t i x z = record { size = length-set (t .trains) i x ∙ z .size; count = z .count }
+
+-- ---- one more
+
+pub line-last : (t : Table) (x : Train) → Sized t → t .count < places → onLine (withLast t x) ≡ onLine t ++ (x ∷ [])
+line-last t x z h = rw (add-one (t .count)) (take-suc-set (t .trains) (t .count) x (omega arith))
+
+pub sized-last : (t : Table) (x : Train) → Sized t → t .count < places → Sized (withLast t x)
+sized-last t x z h = record { size = length-set (t .trains) (t .count) x ∙ z .size; count = omega arith }
+
+-- ---- the first gone
+
+take-behind : (n : ℕ) (xs ys : List Train) → n ≤ length xs → take (n - 1) (drop 1 xs ++ ys) ≡ drop 1 (take n xs)
+take-behind zero xs ys h = refl
+take-behind (suc n) [] ys h = absurd (omega arith)
+take-behind (suc n) (x ∷ xs) ys h = let less : suc n - 1 ≡ n = omega arith in rw less (take-append-le n xs ys (omega arith))
+
+pub line-without-first : (t : Table) → Sized t → onLine (withoutFirst t) ≡ drop 1 (onLine t)
+line-without-first t z = take-behind (t .count) (t .trains) (blankTrain ∷ []) (omega arith)
+
+pub sized-without-first : (t : Table) → Sized t → Sized (withoutFirst t)
+sized-without-first t z =
+    let joined = length-append (drop 1 (t .trains)) (blankTrain ∷ []) in
+    let dropped = length-drop 1 (t .trains) in
+    record { size = omega arith; count = omega arith }

@@ -1,0 +1,4 @@
+pub mod Ranges
+pub mod Limit
+pub mod Records
+pub mod Checks

@@ -1,0 +1,15 @@
+-- `train::reach_of` meets its contract.
+-- Assumes nothing.
+use Rattle.train.proofs.Records.{computable-bounded}
+use borrow.Author.Needs.{needs}
+use Rattle.train.proofs.reach_of.Statement.{statement}
+use Rattle.train.proofs.reach_of.Tie as tie
+
+reach-of-requires : tie.Need-reach-of-requires
+reach-of-requires c κs = computable-bounded _ (c .before .before .pre)
+
+returns : tie.Need-returns
+returns c = search needs
+
+pub reach-of-spec : {M : Type 1} → statement M
+reach-of-spec = tie.close (tie.spec reach-of-requires returns)

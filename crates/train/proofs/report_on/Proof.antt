@@ -1,0 +1,25 @@
+-- `train::report_on` meets its contract.
+-- Assumes nothing.
+use mathlib.Core.Path.{_∙_}
+use Rattle.train.specs.Report.{reported}
+use Rattle.train.proofs.Records.{report-passed}
+use borrow.Author.Needs.{needs}
+use Rattle.train.proofs.report_on.Statement.{statement}
+use Rattle.train.proofs.report_on.Tie as tie
+
+motion-after-requires : tie.Need-motion-after-requires
+motion-after-requires c κs = report-passed _ _ _ _ (c .pre) .computes
+
+order-after-requires : tie.Need-order-after-requires
+order-after-requires c κs = rw (c .motion-after .ensures) (report-passed _ _ _ _ (c .before .pre) .bounded)
+
+with-motion-requires : tie.Need-with-motion-requires
+with-motion-requires c κs = search needs
+
+returns : tie.Need-returns
+unfolding reported
+returns c = c .with-motion .ensures ∙ (rw (c .before .order-after .ensures, c .before .before .motion-after .ensures))
+
+pub report-on-spec : {M : Type 1} → statement M
+report-on-spec =
+    tie.close (tie.spec motion-after-requires order-after-requires with-motion-requires returns)

@@ -1,0 +1,16 @@
+-- `train::steps_of` meets its contract.
+-- Assumes nothing.
+use Rattle.train.specs.Acts.{stepsOf}
+use borrow.Author.Needs.{needs}
+use Rattle.train.proofs.steps_of.Statement.{statement}
+use Rattle.train.proofs.steps_of.Tie as tie
+
+mul-result : tie.Need-mul-result
+mul-result c = search needs
+
+returns : tie.Need-returns
+unfolding stepsOf
+returns c = search needs
+
+pub steps-of-spec : {M : Type 1} → statement M
+steps-of-spec = tie.close (tie.spec mul-result returns)
