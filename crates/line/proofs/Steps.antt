@@ -24,6 +24,7 @@ use Rattle.line.specs.declared.Outcome.{Outcome}
 use Rattle.train.specs.Ranges.{settingsInRange, idInRange, startInRange, requestInRange}
 use Rattle.table.specs.Table.{blankTrain, places, emptyTable, findOf, trainAt, aheadOf, withTrain, withLast, withoutFirst}
 use Rattle.train.specs.Report.{reachOf, reported, reportAllowed}
+use Rattle.train.proofs.Acts.{acted-report, acted-repeat, acted-new, acted-call-back, acted-hold, acted-lift}
 use Rattle.train.specs.Acts.{stepsOf, withinLimit, entering, authorised, isRepeat, extended, isOld, calledBack, callBackAllowed, marked, acted, mayLeave}
 use Rattle.train.specs.Checks.{firstOf}
 use Rattle.line.specs.Step.{outcome, refused, noSettings, openStep, enterStep, actStep, ownStep, takeOffStep, step}
@@ -108,8 +109,8 @@ module _ (t : Table) (id i : ℕ) (x : Train) (found : findOf t id ≡ At i) (he
 
   pub report-taken : (h v : ℕ) → reportAllowed (t .settings) x h v ≡ true
       → step t (Own id (Report h v)) ≡ outcome (Ordered (reported (t .settings) x h v .order) (reachOf (reported (t .settings) x h v))) (withTrain t i (reported (t .settings) x h v))
-  unfolding actStep firstOf acted
-  report-taken h v e = own-found (Report h v) ∙ (rw (e, actStep))
+  unfolding actStep firstOf
+  report-taken h v e = own-found (Report h v) ∙ (rw (acted-report, e, actStep))
 
   -- extend
   module _ (n l : ℕ) where
@@ -128,10 +129,17 @@ module _ (t : Table) (id i : ℕ) (x : Train) (found : findOf t id ≡ At i) (he
         extend-other e f = own-found (Extend n l) ∙ (rw (ranged, fresh, eq-eqb n (x .number) e, ne-eqb l (x .asked) f, actStep))
 
         pub extend-repeat : n ≡ x .number → l ≡ x .asked → step t (Own id (Extend n l)) ≡ outcome (Extended (x .end) true) t
-        unfolding actStep firstOf isRepeat acted extended
+        unfolding actStep firstOf isRepeat
         extend-repeat e f =
             own-found (Extend n l)
-            ∙ (rw (ranged, fresh, eq-eqb n (x .number) e, eq-eqb l (x .asked) f, actStep) (rw (ap (set (t .trains) i) here ∙ set-getD (t .trains) i blankTrain)))
+            ∙ (rw (
+              acted-repeat (t .settings) x n l (eq-eqb n (x .number) e),
+              ranged,
+              fresh,
+              eq-eqb n (x .number) e,
+              eq-eqb l (x .asked) f,
+              actStep,
+            ) (rw (ap (set (t .trains) i) here ∙ set-getD (t .trains) i blankTrain)))
 
         pub extend-beyond : (n ≡ x .number → ⊥) → withinLimit (t .settings) (aheadOf t i) (x .end + l) ≡ false
             → step t (Own id (Extend n l)) ≡ refused t NoTrack
@@ -140,8 +148,8 @@ module _ (t : Table) (id i : ℕ) (x : Train) (found : findOf t id ≡ At i) (he
 
         pub extend-new : (n ≡ x .number → ⊥) → withinLimit (t .settings) (aheadOf t i) (x .end + l) ≡ true
             → step t (Own id (Extend n l)) ≡ outcome (Extended (x .end + l) false) (withTrain t i (authorised x (x .end + l) n l))
-        unfolding actStep firstOf isRepeat acted extended
-        extend-new e f = own-found (Extend n l) ∙ (rw (ranged, fresh, ne-eqb n (x .number) e, f, actStep))
+        unfolding actStep firstOf isRepeat
+        extend-new e f = own-found (Extend n l) ∙ (rw (acted-new (t .settings) x n l (ne-eqb n (x .number) e), ranged, fresh, ne-eqb n (x .number) e, f, actStep))
 
   -- call back
   pub call-back-refused : (place : ℕ) → callBackAllowed x place ≡ false → step t (Own id (CallBack place)) ≡ refused t BadPlace
@@ -149,17 +157,17 @@ module _ (t : Table) (id i : ℕ) (x : Train) (found : findOf t id ≡ At i) (he
   call-back-refused place e = own-found (CallBack place) ∙ (rw (e, actStep))
 
   pub call-back-taken : (place : ℕ) → callBackAllowed x place ≡ true → step t (Own id (CallBack place)) ≡ outcome Done (withTrain t i (calledBack x place))
-  unfolding actStep firstOf acted
-  call-back-taken place e = own-found (CallBack place) ∙ (rw (e, actStep))
+  unfolding actStep firstOf
+  call-back-taken place e = own-found (CallBack place) ∙ (rw (acted-call-back, e, actStep))
 
   -- hold and lift
   pub hold-taken : step t (Own id Hold) ≡ outcome Done (withTrain t i (marked x true))
-  unfolding actStep firstOf acted
-  hold-taken = own-found Hold
+  unfolding actStep firstOf
+  hold-taken = own-found Hold ∙ (rw acted-hold)
 
   pub lift-taken : step t (Own id Lift) ≡ outcome Done (withTrain t i (marked x false))
-  unfolding actStep firstOf acted
-  lift-taken = own-found Lift
+  unfolding actStep firstOf
+  lift-taken = own-found Lift ∙ (rw acted-lift)
 
   -- take off
   take-off-found : step t (TakeOff id) ≡ takeOffStep t (At i)

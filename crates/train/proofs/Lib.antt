@@ -1,4 +1,5 @@
 pub mod Ranges
 pub mod Limit
 pub mod Records
+pub mod Acts
 pub mod Checks
