@@ -10,3 +10,4 @@ pub mod Calls
 pub mod Demand3
 pub mod Bounds
 pub mod Session
+pub mod Runs

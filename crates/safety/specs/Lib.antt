@@ -1,3 +1,4 @@
 pub mod History
 pub mod Claim
 pub mod Session
+pub mod Run
