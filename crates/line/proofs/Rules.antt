@@ -29,17 +29,17 @@ use Rattle.table.specs.declared.Found.{Found}
 use Rattle.table.specs.declared.Found.the-variants.{At, Nothing}
 use Rattle.train.specs.declared.Act.{Act}
 use Rattle.train.specs.declared.Act.the-variants.{Report, Extend, CallBack, Hold, Lift}
-use Rattle.line.specs.declared.Call.{Call}
-use Rattle.line.specs.declared.Call.the-variants.{Enter, Own, TakeOff}
+use Rattle.calls.specs.declared.Call.{Call}
+use Rattle.calls.specs.declared.Call.the-variants.{Enter, Own, TakeOff}
 use Rattle.train.specs.declared.Refusal.{Refusal}
 use Rattle.train.specs.declared.Refusal.the-variants.{NoTrack}
-use Rattle.line.specs.declared.Answer.the-variants.{Entered, Ordered, Extended, Refused}
+use Rattle.calls.specs.declared.Answer.the-variants.{Entered, Ordered, Extended, Refused}
 use Rattle.line.specs.declared.Outcome.{Outcome}
 use Rattle.train.specs.Ranges.{requestInRange}
 use Rattle.table.specs.Table.{blankTrain, onLine, placeIn, findOf, trainAt, aheadOf, withTrain}
 use Rattle.train.specs.Report.{motionAfter, goalOf, orderAfter, reported, reportAllowed}
 use Rattle.train.specs.Acts.{withinLimit, authorised, isOld}
-use Rattle.line.specs.Answers.{numbers, numbersOf}
+use Rattle.calls.specs.Answers.{numbers, numbersOf}
 use Rattle.train.specs.Checks.{firstOf, actChecks}
 use Rattle.line.specs.Checks.{enterChecks, takeOffChecks}
 use Rattle.line.specs.Step.{outcome, judged, refused, enterStep, actAnswer, actStep, ownStep, takeOffStep, step}

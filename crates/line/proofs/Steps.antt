@@ -17,9 +17,9 @@ use Rattle.table.specs.declared.Table.{Table}
 use Rattle.table.specs.declared.Found.the-variants.{At, Nothing}
 use Rattle.train.specs.declared.Act.{Act}
 use Rattle.train.specs.declared.Act.the-variants.{Report, Extend, CallBack, Hold, Lift}
-use Rattle.line.specs.declared.Call.the-variants.{Enter, Own, TakeOff}
+use Rattle.calls.specs.declared.Call.the-variants.{Enter, Own, TakeOff}
 use Rattle.train.specs.declared.Refusal.the-variants.{BadSetting, BadEntry, OnLine, LineFull, BadHead, NoTrain, NotAllowed, BadRequest, OldNumber, OtherLength, NoTrack, BadPlace, NotLeaving}
-use Rattle.line.specs.declared.Answer.the-variants.{Entered, Ordered, Extended, Done}
+use Rattle.calls.specs.declared.Answer.the-variants.{Entered, Ordered, Extended, Done}
 use Rattle.line.specs.declared.Outcome.{Outcome}
 use Rattle.train.specs.Ranges.{settingsInRange, idInRange, startInRange, requestInRange}
 use Rattle.table.specs.Table.{blankTrain, places, emptyTable, findOf, trainAt, aheadOf, withTrain, withLast, withoutFirst}

@@ -12,12 +12,12 @@ use Rattle.table.specs.declared.Found.{Found}
 use Rattle.table.specs.declared.Found.the-variants.{At, Nothing}
 use Rattle.train.specs.declared.Act.{Act}
 use Rattle.train.specs.declared.Act.the-variants.{Report, Extend, CallBack, Hold, Lift}
-use Rattle.line.specs.declared.Call.{Call}
-use Rattle.line.specs.declared.Call.the-variants.{Enter, Own, TakeOff}
+use Rattle.calls.specs.declared.Call.{Call}
+use Rattle.calls.specs.declared.Call.the-variants.{Enter, Own, TakeOff}
 use Rattle.train.specs.declared.Refusal.{Refusal}
 use Rattle.train.specs.declared.Refusal.the-variants.{BadSetting, BadEntry, NoTrain}
-use Rattle.line.specs.declared.Answer.{Answer}
-use Rattle.line.specs.declared.Answer.the-variants.{Entered, Ordered, Extended, Done, Refused}
+use Rattle.calls.specs.declared.Answer.{Answer}
+use Rattle.calls.specs.declared.Answer.the-variants.{Entered, Ordered, Extended, Done, Refused}
 use Rattle.line.specs.declared.Outcome.{Outcome}
 use Rattle.train.specs.Ranges.{settingsInRange}
 use Rattle.table.specs.Table.{emptyTable, findOf, trainAt, aheadOf, withTrain, withLast, withoutFirst}

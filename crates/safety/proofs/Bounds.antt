@@ -19,8 +19,8 @@ use Rattle.motion.proofs.Orders.{within-report, within-bounded}
 use Rattle.train.specs.declared.Settings.{Settings}
 use Rattle.train.specs.declared.Train.{Train}
 use Rattle.table.specs.declared.Table.{Table}
-use Rattle.line.specs.declared.Call.{Call}
-use Rattle.line.specs.declared.Answer.the-variants.{Done}
+use Rattle.calls.specs.declared.Call.{Call}
+use Rattle.calls.specs.declared.Answer.the-variants.{Done}
 use Rattle.train.specs.Ranges.{between, settingsInRange}
 use Rattle.table.specs.Table.{blankTrain, trainAt}
 use Rattle.train.specs.Report.{reachOf, allowed, motionAfter, computable, reportAllowed}

@@ -20,11 +20,11 @@ use Rattle.table.specs.declared.Table.{Table}
 use Rattle.table.specs.declared.Found.{Found}
 use Rattle.table.specs.declared.Found.the-variants.{At, Nothing}
 use Rattle.train.specs.declared.Act.{Act}
-use Rattle.line.specs.declared.Call.{Call}
-use Rattle.line.specs.declared.Call.the-variants.{Enter, Own, TakeOff}
+use Rattle.calls.specs.declared.Call.{Call}
+use Rattle.calls.specs.declared.Call.the-variants.{Enter, Own, TakeOff}
 use Rattle.train.specs.declared.Refusal.{Refusal}
 use Rattle.train.specs.declared.Refusal.the-variants.{BadEntry, NoTrain}
-use Rattle.line.specs.declared.Answer.the-variants.{Entered, Done, Refused}
+use Rattle.calls.specs.declared.Answer.the-variants.{Entered, Done, Refused}
 use Rattle.line.specs.declared.Outcome.{Outcome}
 use Rattle.table.specs.Table.{places, emptyTable, findOf, trainAt, aheadOf, withTrain, withLast, withoutFirst}
 use Rattle.train.specs.Acts.{stepsOf, entering, acted}

@@ -8,7 +8,7 @@ use mathlib.Core.Path.{_≡_, refl, sym, _∙_}
 use native.Mathlib.Omega.{arith}
 use Rattle.train.specs.declared.Act.{Act}
 use Rattle.train.specs.declared.Act.the-variants.{Report, Extend, CallBack, Hold, Lift}
-use Rattle.line.specs.declared.Numbers.{Numbers}
+use Rattle.calls.specs.declared.Numbers.{Numbers}
 use Rattle.safety.specs.History.{Deed, Stay, headBy, headOf, speedBy, speedOf, authorityBy, authorityOf, endOf, figuresFor, orderingBy, orderingOf, hasLift, reportsIn, heldFor}
 use Rattle.safety.specs.Claim.{isHeld, recordOf}
 use Rattle.safety.proofs.Stays.{withDeeds}

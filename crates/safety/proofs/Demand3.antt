@@ -8,8 +8,8 @@ use native.Mathlib.Omega.{arith}
 use Rattle.motion.proofs.Slowing.{slowed-stands}
 use Rattle.train.specs.declared.Settings.{Settings}
 use Rattle.table.specs.declared.Table.{Table}
-use Rattle.line.specs.declared.Call.{Call}
-use Rattle.line.specs.declared.Answer.the-variants.{Done}
+use Rattle.calls.specs.declared.Call.{Call}
+use Rattle.calls.specs.declared.Answer.the-variants.{Done}
 use Rattle.line.specs.Step.{outcome, openStep}
 use Rattle.safety.specs.History.{history, Stay, stays, headOf, rearOf, endOf, figuresFor, heldFor}
 use Rattle.safety.specs.Claim.{heldReports, Stands, Alone, Separate, Clear, Safe, Claim, recordOf, Demand3}

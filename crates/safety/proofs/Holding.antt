@@ -16,7 +16,7 @@ use Rattle.train.specs.declared.Settings.{Settings}
 use Rattle.train.specs.declared.Train.{Train}
 use Rattle.train.specs.declared.Act.{Act}
 use Rattle.train.specs.declared.Act.the-variants.{Report, Extend, CallBack, Hold, Lift}
-use Rattle.line.specs.declared.Answer.{Answer}
+use Rattle.calls.specs.declared.Answer.{Answer}
 use Rattle.train.specs.Report.{allowed, motionAfter, reported}
 use Rattle.train.specs.Acts.{isRepeat, extended, authorised, acted}
 use Rattle.train.specs.Checks.{firstOf, actChecks}

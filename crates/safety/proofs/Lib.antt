@@ -10,4 +10,3 @@ pub mod Calls
 pub mod Demand3
 pub mod Bounds
 pub mod Session
-pub mod Runs

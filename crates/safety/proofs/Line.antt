@@ -10,9 +10,9 @@ use borrow.Author.Tests.{eq-eqb, ne-eqb}
 use Rattle.train.specs.declared.Settings.{Settings}
 use Rattle.train.specs.declared.Train.{Train}
 use Rattle.train.specs.declared.Act.{Act}
-use Rattle.line.specs.declared.Call.the-variants.{Own, TakeOff}
-use Rattle.line.specs.declared.Answer.{Answer}
-use Rattle.line.specs.declared.Answer.the-variants.{Done}
+use Rattle.calls.specs.declared.Call.the-variants.{Own, TakeOff}
+use Rattle.calls.specs.declared.Answer.{Answer}
+use Rattle.calls.specs.declared.Answer.the-variants.{Done}
 use Rattle.table.specs.Table.{blankTrain}
 use Rattle.train.specs.Acts.{stepsOf, acted}
 use Rattle.train.specs.Checks.{firstOf, actChecks}

@@ -18,11 +18,11 @@ use Rattle.train.specs.declared.Settings.{Settings}
 use Rattle.train.specs.declared.Train.{Train}
 use Rattle.train.specs.declared.Act.{Act}
 use Rattle.train.specs.declared.Act.the-variants.{Report, Extend, CallBack, Hold, Lift}
-use Rattle.line.specs.declared.Answer.{Answer}
-use Rattle.line.specs.declared.Answer.the-variants.{Ordered, Done}
+use Rattle.calls.specs.declared.Answer.{Answer}
+use Rattle.calls.specs.declared.Answer.the-variants.{Ordered, Done}
 use Rattle.train.specs.Report.{reported}
 use Rattle.train.specs.Acts.{entering, isRepeat, extended, authorised, acted}
-use Rattle.line.specs.Answers.{numbersOf}
+use Rattle.calls.specs.Answers.{numbersOf}
 use Rattle.line.specs.Step.{actAnswer}
 use Rattle.safety.specs.History.{Deed, Stay, headOf, speedOf, Authority, authorityBy, authorityOf, figuresFor, levelAfter, orderIn, orderingOf, hasLift, heldFor}
 use Rattle.safety.specs.Claim.{isHeld, recordOf}

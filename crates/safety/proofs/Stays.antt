@@ -7,13 +7,13 @@ use mathlib.Core.Path.{_≡_, refl, sym, _∙_}
 use Rattle.train.specs.declared.Train.{Train}
 use Rattle.train.specs.declared.Act.{Act}
 use Rattle.train.specs.declared.Act.the-variants.{Report, Extend, CallBack, Hold, Lift}
-use Rattle.line.specs.declared.Call.{Call}
-use Rattle.line.specs.declared.Call.the-variants.{Enter, Own, TakeOff}
+use Rattle.calls.specs.declared.Call.{Call}
+use Rattle.calls.specs.declared.Call.the-variants.{Enter, Own, TakeOff}
 use Rattle.train.specs.declared.Refusal.{Refusal}
 use Rattle.train.specs.declared.Refusal.the-variants.{BadSetting, BadEntry, OnLine, LineFull, BadHead, NoTrain, NotAllowed, BadRequest, OldNumber, OtherLength, NoTrack, BadPlace, NotLeaving}
-use Rattle.line.specs.declared.Answer.{Answer}
-use Rattle.line.specs.declared.Answer.the-variants.{Entered, Done, Refused}
-use Rattle.line.specs.Answers.{numbersOf}
+use Rattle.calls.specs.declared.Answer.{Answer}
+use Rattle.calls.specs.declared.Answer.the-variants.{Entered, Done, Refused}
+use Rattle.calls.specs.Answers.{numbersOf}
 use Rattle.line.specs.Step.{actAnswer}
 use Rattle.safety.specs.History.{Event, isAccepted, Deed, deedIn, deedsIn, takesOff, hasLeft, Stay, stayFrom, stays}
 

@@ -10,7 +10,7 @@ use Rattle.motion.specs.Count.{cyclesToStand}
 use Rattle.train.specs.declared.Settings.{Settings}
 use Rattle.train.specs.declared.Train.{Train}
 use Rattle.table.specs.declared.Table.{Table}
-use Rattle.line.specs.declared.Call.{Call}
+use Rattle.calls.specs.declared.Call.{Call}
 use Rattle.table.specs.Table.{onLine}
 use Rattle.train.specs.Acts.{stepsOf}
 use Rattle.safety.specs.History.{Event, history, after, Stay, stays, headOf, speedOf, rearOf, authorityOf, endOf, figuresFor, orderingOf, heldFor}

@@ -14,11 +14,11 @@ use Rattle.motion.specs.Motion.{nextLevel, releasedLevel}
 use Rattle.table.specs.declared.Table.{Table}
 use Rattle.train.specs.declared.Act.{Act}
 use Rattle.train.specs.declared.Act.the-variants.{Report, Extend, CallBack, Hold, Lift}
-use Rattle.line.specs.declared.Call.{Call}
-use Rattle.line.specs.declared.Call.the-variants.{Enter, Own, TakeOff}
-use Rattle.line.specs.declared.Numbers.{Numbers}
+use Rattle.calls.specs.declared.Call.{Call}
+use Rattle.calls.specs.declared.Call.the-variants.{Enter, Own, TakeOff}
+use Rattle.calls.specs.declared.Numbers.{Numbers}
 use Rattle.train.specs.Acts.{stepsOf}
-use Rattle.line.specs.Answers.{numbersOf}
+use Rattle.calls.specs.Answers.{numbersOf}
 use Rattle.line.specs.Step.{step}
 
 -- a call with its answer: the number and the three values

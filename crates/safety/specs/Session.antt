@@ -5,10 +5,10 @@ use mathlib.Core.Option.{Option, none, some}
 use mathlib.Core.List.{List, [], _∷_, map}
 use Rattle.train.specs.declared.Settings.{Settings}
 use Rattle.train.specs.declared.Act.the-variants.{Report, Extend, CallBack, Hold, Lift}
-use Rattle.line.specs.declared.Call.{Call}
-use Rattle.line.specs.declared.Call.the-variants.{Enter, Own, TakeOff}
-use Rattle.line.specs.declared.Numbers.{Numbers}
-use Rattle.line.specs.Answers.{numbers, numbersOf}
+use Rattle.calls.specs.declared.Call.{Call}
+use Rattle.calls.specs.declared.Call.the-variants.{Enter, Own, TakeOff}
+use Rattle.calls.specs.declared.Numbers.{Numbers}
+use Rattle.calls.specs.Answers.{numbers, numbersOf}
 use Rattle.line.specs.Step.{openStep}
 use Rattle.safety.specs.History.{Event, history, Stay, stays, headOf, speedOf, rearOf, endOf, heldFor}
 
