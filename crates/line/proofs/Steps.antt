@@ -1,7 +1,7 @@
 -- Laws of one call: what each of its checks leads to. Whoever cites these opens neither `step` nor the lists of checks.
 -- Assumes nothing.
 use Prim.Native.Nat.{ℕ, _+_, _≤_, _<_}
-use mathlib.Core.Bool.{true, false, _&&_}
+use mathlib.Core.Bool.{Bool, true, false, cond, _&&_}
 use mathlib.Core.Path.{_≡_, sym, ap, _∙_}
 use native.Mathlib.Omega.{arith}
 use lib.ListN.{set}
@@ -25,7 +25,7 @@ use Rattle.train.specs.Ranges.{settingsInRange, idInRange, startInRange, reques
 use Rattle.table.specs.Table.{blankTrain, places, emptyTable, findOf, trainAt, aheadOf, withTrain, withLast, withoutFirst}
 use Rattle.train.specs.Report.{reachOf, reported, reportAllowed}
 use Rattle.train.proofs.Acts.{acted-report, acted-repeat, acted-new, acted-call-back, acted-hold, acted-lift}
-use Rattle.train.specs.Acts.{stepsOf, withinLimit, entering, authorised, isRepeat, extended, isOld, calledBack, callBackAllowed, marked, acted, mayLeave}
+use Rattle.train.specs.Acts.{stepsOf, withinLimit, entering, authorised, isRepeat, isOld, calledBack, callBackAllowed, marked, acted, mayLeave}
 use Rattle.train.specs.Checks.{firstOf}
 use Rattle.line.specs.Step.{outcome, refused, noSettings, openStep, enterStep, actStep, ownStep, takeOffStep, step}
 
@@ -161,13 +161,17 @@ module _ (t : Table) (id i : ℕ) (x : Train) (found : findOf t id ≡ At i) (he
   call-back-taken place e = own-found (CallBack place) ∙ (rw (acted-call-back, e, actStep))
 
   -- hold and lift
-  pub hold-taken : step t (Own id Hold) ≡ outcome Done (withTrain t i (marked x true))
+  hold-taken : step t (Own id Hold) ≡ outcome Done (withTrain t i (marked x true))
   unfolding actStep firstOf
   hold-taken = own-found Hold ∙ (rw acted-hold)
 
-  pub lift-taken : step t (Own id Lift) ≡ outcome Done (withTrain t i (marked x false))
+  lift-taken : step t (Own id Lift) ≡ outcome Done (withTrain t i (marked x false))
   unfolding actStep firstOf
   lift-taken = own-found Lift ∙ (rw acted-lift)
+
+  pub mark-taken : (b : Bool) → step t (Own id (cond b Hold Lift)) ≡ outcome Done (withTrain t i (marked x b))
+  mark-taken true = hold-taken
+  mark-taken false = lift-taken
 
   -- take off
   take-off-found : step t (TakeOff id) ≡ takeOffStep t (At i)

@@ -1,6 +1,6 @@
 // The calls on the table of trains: document 01, "Authorities" and "What is turned down".
 ghost use mathlib.Core.Path.{_≡_};
-ghost use mathlib.Core.Bool.{true, _&&_};
+ghost use mathlib.Core.Bool.{true, cond, _&&_};
 ghost use Rattle.train.specs.Ranges.{idInRange, startInRange};
 ghost use Rattle.line.specs.Step.{refused, openStep, enterStep, step};
 use brake::Figures;
@@ -167,9 +167,9 @@ pub fn call_back(t: Table, id: u64, place: u64) -> Outcome
     }
 }
 
-// Hold: the emergency message, from the next report on.
-pub fn hold(t: Table, id: u64) -> Outcome
-    ensures { λ r. ⌜ r ≡ step t (Call.Own id Act.Hold) ⌝ }
+// Sets the mark that the next report reads, and nothing else.
+fn set_mark(t: Table, id: u64, held: bool) -> Outcome
+    ensures { λ r. ⌜ r ≡ step t (Call.Own id (cond held Act.Hold Act.Lift)) ⌝ }
 {
     let Found::At(i) = table::find(t, id) else {
         return refuse(t, Refusal::NoTrain);
@@ -177,22 +177,22 @@ pub fn hold(t: Table, id: u64) -> Outcome
     let x = table::train_at(t, i);
     Outcome {
         answer: Answer::Done,
-        table: table::with_train(t, i, train::with_mark(x, true)),
+        table: table::with_train(t, i, train::with_mark(x, held)),
     }
+}
+
+// Hold: the emergency message, from the next report on.
+pub fn hold(t: Table, id: u64) -> Outcome
+    ensures { λ r. ⌜ r ≡ step t (Call.Own id Act.Hold) ⌝ }
+{
+    set_mark(t, id, true)
 }
 
 // Lift: the withdrawal of a hold.
 pub fn lift(t: Table, id: u64) -> Outcome
     ensures { λ r. ⌜ r ≡ step t (Call.Own id Act.Lift) ⌝ }
 {
-    let Found::At(i) = table::find(t, id) else {
-        return refuse(t, Refusal::NoTrain);
-    };
-    let x = table::train_at(t, i);
-    Outcome {
-        answer: Answer::Done,
-        table: table::with_train(t, i, train::with_mark(x, false)),
-    }
+    set_mark(t, id, false)
 }
 
 // Take off: the first train, standing under brake. The yard's word that its track is clear is taken.

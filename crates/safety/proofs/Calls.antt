@@ -33,7 +33,7 @@ use Rattle.line.specs.Checks.{enterChecks, takeOffChecks}
 use Rattle.line.specs.Step.{outcome, judged, openStep, enterStep, actAnswer, actStep, ownStep, takeOffStep, step}
 use Rattle.safety.specs.History.{Event, history, after, stayFrom, stays, heldFor}
 use Rattle.train.proofs.Checks.{passed, limit-tested, first-leaves}
-use Rattle.table.proofs.Places.{not-found}
+use Rattle.table.proofs.Places.{found-below, not-found}
 use Rattle.safety.proofs.Stays.{newStay, event, act-accepted, done-accepted, stays-refused, stays-enter, stays-kept}
 use Rattle.safety.proofs.Train.{guarded-entering}
 use Rattle.safety.proofs.Records.{record-new}
@@ -41,7 +41,7 @@ use Rattle.line.proofs.Steps.{open-made}
 use Rattle.table.proofs.Trains.{sized-empty, line-with, sized-with, line-last, sized-last, line-without-first, sized-without-first}
 use Rattle.safety.proofs.Finding.{IsAt}
 use Rattle.safety.proofs.Line.{Steady, aheadIn, lined-act, lined-enter, lined-off}
-use Rattle.safety.proofs.Told.{Told, told-count, told-train, told-ahead, told-absent, told-place, told-below}
+use Rattle.safety.proofs.Told.{Told, told-count, told-train, told-ahead, told-absent, told-place}
 
 -- one call more, with this outcome
 abbrev Next : Settings → List Event → Call → Outcome → Type 0
@@ -66,7 +66,7 @@ module _ (σ : Settings) (es : List Event) (t : Table) (T : Told σ es t) where
       (outcome (actAnswer a (trainAt t i) (acted (t .settings) a (trainAt t i))) (withTrain t i (acted (t .settings) a (trainAt t i))))
   told-act id a i f e =
       let x = trainAt t i in
-      let below = told-below σ es t T id i f in
+      let below = found-below t id i f in
       let passes = rw (told-ahead σ es t T i (omega arith), told-train σ es t T i below) at e in
       let (lined, same) = lined-act (t .settings) id a none (stays es) i (T .lined) (told-place σ es t T id i f) passes in
       let now = stays-kept es (Own id a) (actAnswer a x (acted (t .settings) a x)) (act-accepted _ a x _) (unfold stayFrom in refl) in

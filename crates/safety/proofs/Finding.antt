@@ -1,12 +1,11 @@
 -- Which stay an id names: what the search for it says of the stays, and that its events touch no other.
 -- Assumes nothing.
-use Prim.Native.Nat.{ℕ, zero, suc, _+_, _<_}
+use Prim.Native.Nat.{ℕ, zero, suc, _+_}
 use mathlib.Core.Bool.{true, false}
 use mathlib.Core.List.{List, [], _∷_, map}
 use mathlib.Core.Path.{_≡_, refl, sym, _∙_}
 use native.Mathlib.Omega.{arith}
 use lib.Dec.{eqb}
-use lib.ListN.{length}
 use borrow.Author.Tests.{eqb-true, eqb-false}
 use Rattle.brake.proofs.Tests.{by-test}
 use Rattle.table.specs.declared.Found.the-variants.{At, Nothing}
@@ -25,11 +24,6 @@ abbrev pub IsAt : ℕ → List Stay → ℕ → Type 0
 IsAt id [] i = ⊥
 IsAt id (s ∷ ss) zero = s .id ≡ id
 IsAt id (s ∷ ss) (suc i) = (s .id ≡ id → ⊥) × IsAt id ss i
-
-pub place-below : (id : ℕ) (ss : List Stay) (i : ℕ) → IsAt id ss i → i < length ss
-place-below id [] i p = absurd p
-place-below id (s ∷ ss) zero p = omega arith
-place-below id (s ∷ ss) (suc i) p = let below = place-below id ss i (p .1) in omega arith
 
 -- ---- the search
 

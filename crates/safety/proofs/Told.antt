@@ -14,7 +14,7 @@ use Rattle.table.specs.Table.{blankTrain, onLine, findOf, trainAt, aheadOf}
 use Rattle.safety.specs.History.{Event, Stay, stays}
 use Rattle.safety.specs.Claim.{recordOf}
 use Rattle.table.proofs.Trains.{Sized, line-length, train-on-line}
-use Rattle.safety.proofs.Finding.{Absent, IsAt, place-below, missing, found}
+use Rattle.safety.proofs.Finding.{Absent, IsAt, missing, found}
 use Rattle.safety.proofs.Line.{Lined, aheadIn}
 
 -- on a line with settings σ the history es has led to the table t
@@ -53,9 +53,3 @@ module _ (σ : Settings) (es : List Event) (t : Table) (T : Told σ es t) where
   told-place id i e =
       let (j, same, place) = found id (stays es) 0 i (rw (T .trains) at e) in
       subst (IsAt id (stays es)) (omega arith) place
-
-  pub told-below : (id i : ℕ) → findOf t id ≡ At i → i < t .count
-  told-below id i e =
-      let below = place-below id (stays es) i (told-place id i e) in
-      let count = told-count in
-      omega arith

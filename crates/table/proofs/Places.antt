@@ -72,11 +72,11 @@ found-among t id i e =
     let h : Among 0 (0 + length (onLine t)) (At i) = rw e at (place-among (onLine t) id 0) in
     omega (arith, h .1)
 
-pub found-place : (t : Table) (id i : ℕ) → length (t .trains) ≡ 32 → findOf t id ≡ At i → (i < t .count) × (i < 32)
-found-place t id i size e =
+pub found-below : (t : Table) (id i : ℕ) → findOf t id ≡ At i → i < t .count
+found-below t id i e =
     let h = found-among t id i e in
     let n = length-take (t .count) (t .trains) in
-    (omega arith, omega arith)
+    omega arith
 
 pub not-found : (f : Found) → isFound f ≡ false → f ≡ Nothing
 not-found (At i) e = let z : _≡_ {A = ℕ} 0 1 = cc in absurd (omega arith)

@@ -83,12 +83,14 @@ pub fn train_at(t: Table, i: usize) -> Train
 }
 
 pub fn with_train(t: Table, i: usize, x: Train) -> Table
-    requires { ⌜ i < 32 ⌝ }
     ensures { λ r. ⌜ r ≡ withTrain t i x ⌝ }
 {
-    let mut u = t;
-    u.trains[i] = x;
-    u
+    if i < 32 {
+        let mut u = t;
+        u.trains[i] = x;
+        return u;
+    }
+    t
 }
 
 pub fn with_last(t: Table, x: Train) -> Table

@@ -1,6 +1,5 @@
 -- `line::extend` meets its contract.
 -- Assumes nothing.
-use Prim.Native.Nat.{_<_}
 use mathlib.Core.Path.{_≡_, sym, _∙_}
 use mathlib.Core.Bool.{true}
 use native.Mathlib.Omega.{arith}
@@ -9,7 +8,6 @@ use borrow.Author.Tests.{not-true, not-false}
 use Rattle.table.specs.declared.Found.the-variants.{At}
 use Rattle.table.specs.Table.{findOf}
 use Rattle.train.specs.Ranges.{requestInRange}
-use Rattle.table.proofs.Places.{long, found-place}
 use Rattle.line.proofs.Steps.{own-unknown, extend-bad, extend-old, extend-other, extend-repeat, extend-beyond, extend-new}
 use borrow.Author.Needs.{needs}
 use Rattle.line.proofs.extend.Statement.{statement}
@@ -33,13 +31,6 @@ returns c = c .refuse .ensures ∙ sym (own-unknown _ _ _ (sym (c .before .befor
 -- the train was found
 found : (c : tie.After-i) → let a = c .before .before .before .args in findOf (a .t) (a .id) ≡ At (c .i .given .0 .0)
 found c = sym (c .before .before .find .ensures) ∙ c .i .given .1
-
--- at one of the places
-place : (c : tie.After-i) → let a = c .before .before .before .args in (c .i .given .0 .0 < a .t .count) × (c .i .given .0 .0 < 32)
-place c =
-    let a = c .before .before .before .args in
-    let size : length (a .t .trains) ≡ 32 = search (needs, long) in
-    found-place (a .t) (a .id) _ size (found c)
 
 train-at-requires : tie.Need-train-at-requires
 train-at-requires c κs = search needs
@@ -121,7 +112,7 @@ with-authority-requires : tie.Need-with-authority-requires
 with-authority-requires c κs = search needs
 
 with-train-requires : tie.Need-with-train-requires
-with-train-requires c κs = place (c .before .before .before .before .before .before .before .before .before .before .before .before) .1
+with-train-requires c κs = search needs
 
 returns-7 : tie.Need-returns-7
 returns-7 c =

@@ -1,13 +1,11 @@
 -- `line::take_off` meets its contract.
 -- Assumes nothing.
-use Prim.Native.Nat.{_<_}
 use mathlib.Core.Path.{_≡_, sym, _∙_}
-use lib.ListN.{length}
 use native.Mathlib.Omega.{arith}
 use borrow.Author.Tests.{not-true, not-false}
 use Rattle.table.specs.declared.Found.the-variants.{At}
 use Rattle.table.specs.Table.{findOf}
-use Rattle.table.proofs.Places.{long, found-place}
+use Rattle.table.proofs.Places.{found-below}
 use Rattle.line.proofs.Steps.{take-off-unknown, take-off-refused, take-off-taken}
 use borrow.Author.Needs.{needs}
 use Rattle.line.proofs.take_off.Statement.{statement}
@@ -32,13 +30,6 @@ returns c = c .refuse .ensures ∙ sym (take-off-unknown _ _ (sym (c .before .be
 found : (c : tie.After-i) → let a = c .before .before .before .args in findOf (a .t) (a .id) ≡ At (c .i .given .0 .0)
 found c = sym (c .before .before .find .ensures) ∙ c .i .given .1
 
--- at one of the places
-place : (c : tie.After-i) → let a = c .before .before .before .args in (c .i .given .0 .0 < a .t .count) × (c .i .given .0 .0 < 32)
-place c =
-    let a = c .before .before .before .args in
-    let size : length (a .t .trains) ≡ 32 = search (needs, long) in
-    found-place (a .t) (a .id) _ size (found c)
-
 train-at-requires : tie.Need-train-at-requires
 train-at-requires c κs = search needs
 
@@ -56,7 +47,7 @@ returns-2 c =
     ∙ sym (take-off-refused _ _ _ _ (found (x .before .before)) (x .train-at .ensures) (sym (test .before .may-leave .ensures) ∙ not-true _ (test .if1 .taken)))
 
 without-first-requires : tie.Need-without-first-requires
-without-first-requires c κs = let below = place (c .before .before .before .before) .0 in omega arith
+without-first-requires c κs = let below = found-below _ _ _ (found (c .before .before .before .before)) in omega arith
 
 returns-3 : tie.Need-returns-3
 returns-3 c =

@@ -1,6 +1,5 @@
 -- `table::within_limit` meets its contract.
 -- Assumes nothing.
-use mathlib.Core.Path.{sym, _∙_}
 use borrow.Author.Needs.{needs}
 use Rattle.table.proofs.Limit.{ahead-first, ahead-behind}
 use Rattle.table.proofs.within_limit.Statement.{statement}

@@ -1,15 +1,12 @@
--- `line::hold` meets its contract.
+-- `line::set_mark` meets its contract.
 -- Assumes nothing.
-use Prim.Native.Nat.{_<_}
 use mathlib.Core.Path.{_≡_, sym, _∙_}
-use lib.ListN.{length}
 use Rattle.table.specs.declared.Found.the-variants.{At}
 use Rattle.table.specs.Table.{findOf}
-use Rattle.table.proofs.Places.{long, found-place}
-use Rattle.line.proofs.Steps.{own-unknown, hold-taken}
+use Rattle.line.proofs.Steps.{own-unknown, mark-taken}
 use borrow.Author.Needs.{needs}
-use Rattle.line.proofs.hold.Statement.{statement}
-use Rattle.line.proofs.hold.Tie as tie
+use Rattle.line.proofs.set_mark.Statement.{statement}
+use Rattle.line.proofs.set_mark.Tie as tie
 
 find-requires : tie.Need-find-requires
 find-requires c κs = search needs
@@ -30,13 +27,6 @@ returns c = c .refuse .ensures ∙ sym (own-unknown _ _ _ (sym (c .before .befor
 found : (c : tie.After-i) → let a = c .before .before .before .args in findOf (a .t) (a .id) ≡ At (c .i .given .0 .0)
 found c = sym (c .before .before .find .ensures) ∙ c .i .given .1
 
--- at one of the places
-place : (c : tie.After-i) → let a = c .before .before .before .args in (c .i .given .0 .0 < a .t .count) × (c .i .given .0 .0 < 32)
-place c =
-    let a = c .before .before .before .args in
-    let size : length (a .t .trains) ≡ 32 = search (needs, long) in
-    found-place (a .t) (a .id) _ size (found c)
-
 train-at-requires : tie.Need-train-at-requires
 train-at-requires c κs = search needs
 
@@ -44,15 +34,15 @@ with-mark-requires : tie.Need-with-mark-requires
 with-mark-requires c κs = search needs
 
 with-train-requires : tie.Need-with-train-requires
-with-train-requires c κs = place (c .before .before .before) .1
+with-train-requires c κs = search needs
 
 returns-2 : tie.Need-returns-2
 returns-2 c =
     let x = c .before .before in
-    rw (c .with-train .ensures, c .before .with-mark .ensures) (sym (hold-taken _ _ _ _ (found (x .before .before)) (x .train-at .ensures)))
+    rw (c .with-train .ensures, c .before .with-mark .ensures) (sym (mark-taken _ _ _ _ (found (x .before .before)) (x .train-at .ensures) _))
 
-pub hold-spec : {M : Type 1} → statement M
-hold-spec =
+pub set-mark-spec : {M : Type 1} → statement M
+set-mark-spec =
     tie.close
     (tie.spec
     find-requires
