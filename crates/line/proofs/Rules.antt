@@ -57,7 +57,7 @@ kept-judged : (t : Table) (r : Option Refusal) (accepted : Outcome) → numbersO
 kept-judged t none accepted e = inl e
 kept-judged t (some r) accepted e = inr (refl, refl)
 
-act-accepts : (a : Act) (x y : Train) → numbersOf (actAnswer a x y) .number ≡ 0
+pub act-accepts : (a : Act) (x y : Train) → numbersOf (actAnswer a x y) .number ≡ 0
 act-accepts (Report h v) x y = refl
 act-accepts (Extend n l) x y = refl
 act-accepts (CallBack p) x y = refl

@@ -4,17 +4,18 @@ use Prim.Native.Nat.{ℕ}
 use mathlib.Core.Bool.{Bool, true, false, cond, _||_, or-assoc, or-false}
 use mathlib.Core.List.{List, [], _∷_, _++_, append-assoc, append-nil}
 use mathlib.Core.Path.{_≡_, refl, sym, _∙_}
+use borrow.Author.Tests.{eq-eqb}
 use Rattle.train.specs.declared.Train.{Train}
 use Rattle.train.specs.declared.Act.{Act}
-use Rattle.train.specs.declared.Act.the-variants.{Report, Extend, CallBack, Hold, Lift}
 use Rattle.calls.specs.declared.Call.{Call}
 use Rattle.calls.specs.declared.Call.the-variants.{Enter, Own, TakeOff}
 use Rattle.train.specs.declared.Refusal.{Refusal}
-use Rattle.train.specs.declared.Refusal.the-variants.{BadSetting, BadEntry, OnLine, LineFull, BadHead, NoTrain, NotAllowed, BadRequest, OldNumber, OtherLength, NoTrack, BadPlace, NotLeaving}
 use Rattle.calls.specs.declared.Answer.{Answer}
 use Rattle.calls.specs.declared.Answer.the-variants.{Entered, Done, Refused}
 use Rattle.calls.specs.Answers.{numbersOf}
 use Rattle.line.specs.Step.{actAnswer}
+use Rattle.calls.proofs.Answers.{refusal-not-0}
+use Rattle.line.proofs.Rules.{act-accepts}
 use Rattle.safety.specs.History.{Event, isAccepted, Deed, deedIn, deedsIn, takesOff, hasLeft, Stay, stayFrom, stays}
 
 -- ---- more events
@@ -82,19 +83,7 @@ event c r = record { call = c; answer = numbersOf r }
 module _ (c : Call) where
   refused : (r : Refusal) → isAccepted (event c (Refused r)) ≡ false
   unfolding isAccepted
-  refused BadSetting = refl
-  refused BadEntry = refl
-  refused OnLine = refl
-  refused LineFull = refl
-  refused BadHead = refl
-  refused NoTrain = refl
-  refused NotAllowed = refl
-  refused BadRequest = refl
-  refused OldNumber = refl
-  refused OtherLength = refl
-  refused NoTrack = refl
-  refused BadPlace = refl
-  refused NotLeaving = refl
+  refused r = refusal-not-0 r
 
   entered-accepted : (full growth end : ℕ) → isAccepted (event c (Entered full growth end)) ≡ true
   unfolding isAccepted
@@ -102,11 +91,7 @@ module _ (c : Call) where
 
   pub act-accepted : (a : Act) (x y : Train) → isAccepted (event c (actAnswer a x y)) ≡ true
   unfolding isAccepted
-  act-accepted (Report h v) x y = refl
-  act-accepted (Extend n l) x y = refl
-  act-accepted (CallBack p) x y = refl
-  act-accepted Hold x y = refl
-  act-accepted Lift x y = refl
+  act-accepted a x y = eq-eqb _ 0 (act-accepts a x y)
 
   pub done-accepted : isAccepted (event c Done) ≡ true
   unfolding isAccepted

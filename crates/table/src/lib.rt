@@ -23,6 +23,7 @@ pub enum Found {
     Nothing,
 }
 
+// What stands in a place without a train. No call reads it.
 fn blank_train() -> Train
     ensures { λ r. ⌜ r ≡ blankTrain ⌝ }
 {
@@ -73,6 +74,7 @@ pub fn find(t: Table, id: u64) -> Found
     Found::Nothing
 }
 
+// Total: past the last place there is a blank train.
 pub fn train_at(t: Table, i: usize) -> Train
     ensures { λ r. ⌜ r ≡ trainAt t i ⌝ }
 {
@@ -82,6 +84,7 @@ pub fn train_at(t: Table, i: usize) -> Train
     blank_train()
 }
 
+// Total: past the last place nothing is set.
 pub fn with_train(t: Table, i: usize, x: Train) -> Table
     ensures { λ r. ⌜ r ≡ withTrain t i x ⌝ }
 {
@@ -93,6 +96,7 @@ pub fn with_train(t: Table, i: usize, x: Train) -> Table
     t
 }
 
+// A train enters behind the last.
 pub fn with_last(t: Table, x: Train) -> Table
     requires { ⌜ t .count < 32 ⌝ }
     ensures { λ r. ⌜ r ≡ withLast t x ⌝ }

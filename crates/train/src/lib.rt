@@ -65,6 +65,7 @@ pub enum Refusal {
 
 // ---- ranges
 
+// Both ends are in the range, as in document 01's table of settings.
 fn in_range(low: u64, high: u64, n: u64) -> bool
     ensures { λ r. ⌜ r ≡ between low high n ⌝ }
 {
@@ -96,12 +97,14 @@ pub fn id_in_range(id: u64) -> bool
     in_range(1, 65535, id)
 }
 
+// The starting number may be 0: the first request then has number 1.
 pub fn start_in_range(start: u64) -> bool
     ensures { λ r. ⌜ r ≡ startInRange start ⌝ }
 {
     in_range(0, 4294967295, start)
 }
 
+// No request longer than the line can be granted, so its length is bounded by the line end.
 pub fn request_in_range(s: Settings, number: u64, length: u64) -> bool
     ensures { λ r. ⌜ r ≡ requestInRange s number length ⌝ }
 {
@@ -113,6 +116,7 @@ pub fn request_in_range(s: Settings, number: u64, length: u64) -> bool
 
 // ---- the limit
 
+// A length in steps of 50 nm. In 16 bits no length overflows.
 pub fn steps_of(length: u16) -> u64
     ensures { λ r. ⌜ r ≡ stepsOf length ⌝ }
 {
@@ -157,6 +161,7 @@ pub fn within_behind(s: Settings, a: Train, end: u64, more: u64) -> bool
 
 // ---- other records
 
+// Enter: standing under full brake, with no track but what it stands on. Nothing of an earlier stay counts.
 pub fn new_train(id: u64, head: u64, length: u16, k: Figures, start: u64) -> Train
     ensures { λ r. ⌜ r ≡ entering id head length k start ⌝ }
 {
@@ -179,6 +184,7 @@ pub fn new_train(id: u64, head: u64, length: u16, k: Figures, start: u64) -> Tra
     }
 }
 
+// Extend and call back move the end; a call back keeps the request number, so that a repeat still adds none.
 pub fn with_authority(x: Train, end: u64, number: u64, asked: u64) -> Train
     ensures { λ r. ⌜ r ≡ authorised x end number asked ⌝ }
 {
@@ -189,6 +195,7 @@ pub fn with_authority(x: Train, end: u64, number: u64, asked: u64) -> Train
     y
 }
 
+// Hold and lift.
 pub fn with_mark(x: Train, held: bool) -> Train
     ensures { λ r. ⌜ r ≡ marked x held ⌝ }
 {
@@ -241,6 +248,7 @@ fn worst_of(x: Train) -> Motion
     motion::worst_case(k, m, o)
 }
 
+// A call back may not come before it, and a report is answered with it.
 pub fn reach_of(x: Train) -> u64
     requires { ⌜ computable x ≡ true ⌝ }
     ensures { λ r. ⌜ r ≡ reachOf x ⌝ }
@@ -251,6 +259,7 @@ pub fn reach_of(x: Train) -> u64
     motion::reach_of(k, m, o)
 }
 
+// Head and speed are judged each by itself: no further back than the last head, no worse than the worst case.
 fn is_allowed(x: Train, head: u64, speed: u64) -> bool
     requires { ⌜ computable x ≡ true ⌝ }
     ensures { λ r. ⌜ r ≡ allowed x head speed ⌝ }
@@ -280,6 +289,7 @@ fn motion_after(x: Train, head: u64, speed: u64) -> Motion
     }
 }
 
+// Refusal 9. A record that motion cannot be worked out from is refused too: no list of calls leaves one.
 pub fn report_allowed(s: Settings, x: Train, head: u64, speed: u64) -> bool
     ensures { λ r. ⌜ r ≡ reportAllowed s x head speed ⌝ }
 {
@@ -331,6 +341,7 @@ pub fn call_back_allowed(x: Train, place: u64) -> bool
 
 // ---- extend and take off
 
+// Refusal 11. The last accepted number itself is not old: it may be a repeat.
 pub fn is_old(x: Train, number: u64) -> bool
     ensures { λ r. ⌜ r ≡ isOld x number ⌝ }
 {
@@ -340,6 +351,7 @@ pub fn is_old(x: Train, number: u64) -> bool
     number < x.number
 }
 
+// Refusal 15. Under drive a standing train may start in the coming cycle.
 pub fn may_leave(i: usize, x: Train) -> bool
     ensures { λ r. ⌜ r ≡ mayLeave i x ⌝ }
 {
