@@ -1,0 +1,5 @@
+pub mod Fields
+pub mod RoundTrip
+pub mod Rows
+pub mod Texts
+pub mod Unique

@@ -1,0 +1,73 @@
+-- `wire::read_line` meets its contract.
+-- Assumes nothing.
+use mathlib.Core.Path.{_≡_, refl, sym, ap, _∙_}
+use mathlib.Core.Bool.{true, false, not}
+use mathlib.Core.Option.{none, some}
+use Rattle.wire.specs.declared.Row.{Row}
+use borrow.Author.Tests.{eq-eqb, ne-eqb, not-true, not-false}
+use borrow.Author.Needs.{needs}
+use Rattle.wire.specs.Format.{rowNumbers, said, lineRead}
+use Rattle.wire.proofs.read_line.Statement.{statement}
+use Rattle.wire.proofs.read_line.Tie as tie
+
+unread : (r : Row) → not (r .readable) ≡ true → rowNumbers r ≡ none
+unread r e = rw (not-true (r .readable) e) refl
+
+read : (r : Row) → not (r .readable) ≡ false → rowNumbers r ≡ some (r .numbers)
+read r e = rw (not-false (r .readable) e) refl
+
+returns : tie.Need-returns
+unfolding lineRead
+returns c = simp (ne-eqb _ _ (c .if1 .taken))
+
+numbers-in-requires : tie.Need-numbers-in-requires
+numbers-in-requires c κs = search needs
+
+returns-2 : tie.Need-returns-2
+unfolding lineRead
+returns-2 c =
+    let row = c .before .before .before in
+    simp (eq-eqb _ _ (row .before .if1 .left)) (ap said (sym (unread (row .numbers-in .result) (c .if2 .taken)) ∙ row .numbers-in .ensures))
+
+array-read-said-by : tie.Need-array-read-said-by
+array-read-said-by c = search needs
+
+array-read-said-by-2 : tie.Need-array-read-said-by-2
+array-read-said-by-2 c = search needs
+
+array-read-said-by-3 : tie.Need-array-read-said-by-3
+array-read-said-by-3 c = search needs
+
+array-read-said-by-4 : tie.Need-array-read-said-by-4
+array-read-said-by-4 c = search needs
+
+array-read-said-by-5 : tie.Need-array-read-said-by-5
+array-read-said-by-5 c = search needs
+
+array-read-said-by-6 : tie.Need-array-read-said-by-6
+array-read-said-by-6 c = search needs
+
+said-by-requires : tie.Need-said-by-requires
+said-by-requires c κs = search needs
+
+returns-3 : tie.Need-returns-3
+unfolding lineRead
+returns-3 c =
+    let row = c .before .before .before .before in
+    simp (eq-eqb _ _ (row .before .if1 .left)) (c .said-by .ensures ∙ ap said (sym (read (row .numbers-in .result) (c .before .if2 .left)) ∙ row .numbers-in .ensures))
+
+pub read-line-spec : {M : Type 1} → statement M
+read-line-spec =
+    tie.close
+    (tie.spec
+    returns
+    numbers-in-requires
+    returns-2
+    array-read-said-by
+    array-read-said-by-2
+    array-read-said-by-3
+    array-read-said-by-4
+    array-read-said-by-5
+    array-read-said-by-6
+    said-by-requires
+    returns-3)

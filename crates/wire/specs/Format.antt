@@ -1,0 +1,133 @@
+-- Document 01, "The session program": the columns of a line, read and written. Bytes are ASCII: 32 space, 48 to 57 the digits.
+use Prim.Native.Nat.{ℕ, zero, suc, _+_, _-_, _*_, _/_, _%_}
+use mathlib.Core.Bool.{Bool, cond, _&&_}
+use mathlib.Core.Option.{Option, none, some}
+use mathlib.Core.List.{List, [], _∷_, _++_}
+use lib.Dec.{eqb, leb}
+use lib.ListN.{length, take, drop, getD, replicate}
+use Rattle.train.specs.declared.Settings.{Settings}
+use Rattle.calls.specs.declared.Numbers.{Numbers}
+use Rattle.calls.specs.declared.CallRead.{CallRead}
+use Rattle.calls.specs.declared.CallRead.the-variants.{Read}
+use Rattle.calls.specs.declared.CallRead.the-variants as callRead
+use Rattle.calls.specs.Codes.{callOf}
+use Rattle.wire.specs.declared.Scan.{Scan}
+use Rattle.wire.specs.declared.Scan.the-variants.{Blank, Digits, Bad}
+use Rattle.wire.specs.declared.Field.{Field}
+use Rattle.wire.specs.declared.Field.the-variants.{Number, NoNumber}
+use Rattle.wire.specs.declared.Row.{Row}
+use Rattle.wire.specs.declared.LineRead.{LineRead}
+use Rattle.wire.specs.declared.LineRead.the-variants.{Opening, Calling, Unreadable}
+
+-- ---- the columns
+
+-- an input line: a call code in columns 1 to 2 and five numbers of 14 columns
+abbrev pub callColumns : List ℕ
+callColumns = 2 ∷ replicate 5 14
+
+-- so it has 72 bytes before its line feed
+abbrev pub callWidth : ℕ
+callWidth = 72
+
+-- an output line: the answer in 2 columns and three numbers of 14
+abbrev pub answerColumns : List ℕ
+answerColumns = 2 ∷ replicate 3 14
+
+-- ---- reading
+
+-- a field is spaces, then digits
+abbrev pub isDigit : ℕ → Bool
+isDigit b = leb 48 b && leb b 57
+
+-- a digit b after the number n
+unfoldable pub digit : ℕ → ℕ → Scan
+digit n b = cond (isDigit b) (Digits (10 * n + (b - 48))) Bad
+
+-- one column more; no leading zeros: after a 0 nothing may follow
+unfoldable pub column : Scan → ℕ → Scan
+column Blank b = cond (eqb b 32) Blank (digit 0 b)
+column (Digits n) b = cond (eqb n 0) Bad (digit n b)
+column Bad b = Bad
+
+unfoldable pub columns : Scan → List ℕ → Scan
+columns f [] = f
+columns f (b ∷ bs) = columns (column f b) bs
+
+-- the number read so far
+abbrev pub soFar : Scan → ℕ
+soFar Blank = 0
+soFar (Digits n) = n
+soFar Bad = 0
+
+-- a field of spaces alone is none
+abbrev pub ended : Scan → Field
+ended Blank = NoNumber
+ended (Digits n) = Number n
+ended Bad = NoNumber
+
+abbrev pub fieldOf : List ℕ → Field
+fieldOf bs = ended (columns Blank bs)
+
+-- the numbers in columns of these widths, if each field has one
+abbrev pub withNumber : Field → Option (List ℕ) → Option (List ℕ)
+withNumber (Number n) (some ns) = some (n ∷ ns)
+withNumber (Number n) none = none
+withNumber NoNumber ns = none
+
+unfoldable pub numbersIn : List ℕ → List ℕ → Option (List ℕ)
+numbersIn [] line = some []
+numbersIn (w ∷ ws) line = withNumber (fieldOf (take w line)) (numbersIn ws (drop w line))
+
+-- the code's row of numbers
+abbrev pub rowNumbers : Row → Option (List ℕ)
+rowNumbers r = cond (r .readable) (some (r .numbers)) none
+
+-- 1 open (line end, safety distance, V, A); unused numbers are 0
+unfoldable pub openingOf : ℕ → ℕ → ℕ → ℕ → ℕ → LineRead
+openingOf end safety ceiling traction e =
+    cond (eqb e 0) (Opening (record { end = end; safety = safety; limits = record { ceiling = ceiling; traction = traction } })) Unreadable
+
+-- 2 to 8: calls on a table
+abbrev pub calling : CallRead → LineRead
+calling (Read c) = Calling c
+calling callRead.Unreadable = Unreadable
+
+-- what a code and its five numbers say
+unfoldable pub saidBy : ℕ → ℕ → ℕ → ℕ → ℕ → ℕ → LineRead
+saidBy code a b c d e = cond (eqb code 1) (openingOf a b c d e) (calling (callOf code a b c d e))
+
+abbrev pub said : Option (List ℕ) → LineRead
+said none = Unreadable
+said (some ns) = saidBy (getD ns 0 0) (getD ns 1 0) (getD ns 2 0) (getD ns 3 0) (getD ns 4 0) (getD ns 5 0)
+
+-- an input line without its line feed
+unfoldable pub lineRead : List ℕ → LineRead
+lineRead line = cond (eqb (length line) callWidth) (said (numbersIn callColumns line)) Unreadable
+
+-- ---- writing
+
+abbrev pub digitOf : ℕ → ℕ
+digitOf n = 48 + n % 10
+
+-- the columns left of a number's last digit: what is left of the number, and spaces where nothing is left
+abbrev pub leftDigit : ℕ → ℕ
+leftDigit n = cond (eqb n 0) 32 (digitOf n)
+
+unfoldable pub left : ℕ → ℕ → List ℕ
+left zero n = []
+left (suc w) n = left w (n / 10) ++ (leftDigit n ∷ [])
+
+-- a number in w columns
+unfoldable pub text : ℕ → ℕ → List ℕ
+text zero n = []
+text (suc w) n = left w (n / 10) ++ (digitOf n ∷ [])
+
+-- numbers in columns of these widths
+unfoldable pub textOf : List ℕ → List ℕ → List ℕ
+textOf [] ns = []
+textOf (w ∷ ws) [] = []
+textOf (w ∷ ws) (n ∷ ns) = text w n ++ textOf ws ns
+
+-- an output line without its line feed
+unfoldable pub answerText : Numbers → List ℕ
+answerText a = textOf answerColumns (a .number ∷ a .first ∷ a .second ∷ a .third ∷ [])

@@ -1,0 +1,220 @@
+// The session's lines: an input line to what it says, an answer to its 44 bytes. Document 01, "The session program".
+ghost use mathlib.Core.Path.{_≡_};
+ghost use mathlib.Core.List.{_++_};
+ghost use Prim.Native.Nat.{_-_, _*_, _≤_, _<_};
+ghost use lib.ListN.{length, take, drop, getD};
+ghost use Rattle.wire.specs.Format.{digit as digitAfter, column as columnAfter, soFar, fieldOf, callColumns, numbersIn, rowNumbers, openingOf, saidBy, lineRead, digitOf, leftDigit, text, answerText};
+use calls::Call;
+use calls::CallRead;
+use calls::Numbers;
+use motion::Limits;
+use train::Settings;
+
+// The columns of a field read so far: spaces, then digits that make a number. Bad: no field begins so.
+pub enum Scan {
+    Blank,
+    Digits(u64),
+    Bad,
+}
+
+// A whole field.
+pub enum Field {
+    Number(u64),
+    NoNumber,
+}
+
+// The numbers of a line, its code first. Where a field is none the line is not readable, and the numbers mean nothing. (An enum may
+// not hold an array.)
+pub struct Row {
+    pub readable: bool,
+    pub numbers: [u64; 6],
+}
+
+// What an input line says: open with these settings, or a call on the table.
+pub enum LineRead {
+    Opening(Settings),
+    Calling(Call),
+    Unreadable,
+}
+
+// ---- reading
+
+// A digit after the number n. A field has 14 columns at most, so that n is below 10^13.
+fn digit(n: u64, b: u8) -> Scan
+    requires { ⌜ n < 10000000000000 ⌝ }
+    ensures { λ r. ⌜ r ≡ digitAfter n b ⌝ }
+{
+    if b < 48 {
+        return Scan::Bad;
+    }
+    if 57 < b {
+        return Scan::Bad;
+    }
+    let d = (b - 48) as u64;
+    Scan::Digits(10 * n + d)
+}
+
+// One column more. No leading zeros: after a 0 nothing may follow.
+fn column(s: Scan, b: u8) -> Scan
+    requires { ⌜ soFar s < 10000000000000 ⌝ }
+    ensures { λ r. ⌜ r ≡ columnAfter s b ⌝ }
+{
+    match s {
+        Scan::Blank => {
+            if b == 32 {
+                return Scan::Blank;
+            }
+            digit(0, b)
+        }
+        Scan::Digits(n) => {
+            if n == 0 {
+                return Scan::Bad;
+            }
+            digit(n, b)
+        }
+        Scan::Bad => Scan::Bad,
+    }
+}
+
+// The field in these columns.
+fn field_in(field: &[u8]) -> Field
+    requires { ⌜ length (now field) ≤ 14 ⌝ }
+    ensures { λ r. ⌜ r ≡ fieldOf (now (field .entry)) ⌝ }
+{
+    let mut s = Scan::Blank;
+    let mut i: usize = 0;
+    while i < field.len() {
+        s = column(s, field[i]);
+        i += 1;
+    }
+    match s {
+        Scan::Blank => Field::NoNumber,
+        Scan::Digits(n) => Field::Number(n),
+        Scan::Bad => Field::NoNumber,
+    }
+}
+
+// Open: line end, safety distance, V, A. The fifth number is unused.
+fn opening(end: u64, safety: u64, ceiling: u64, traction: u64, e: u64) -> LineRead
+    ensures { λ r. ⌜ r ≡ openingOf end safety ceiling traction e ⌝ }
+{
+    if e != 0 {
+        return LineRead::Unreadable;
+    }
+    LineRead::Opening(Settings {
+        end,
+        safety,
+        limits: Limits { ceiling, traction },
+    })
+}
+
+// What a code and its five numbers say.
+fn said_by(code: u64, a: u64, b: u64, c: u64, d: u64, e: u64) -> LineRead
+    ensures { λ r. ⌜ r ≡ saidBy code a b c d e ⌝ }
+{
+    if code == 1 {
+        return opening(a, b, c, d, e);
+    }
+    let CallRead::Read(call) = calls::call_of(code, a, b, c, d, e) else {
+        return LineRead::Unreadable;
+    };
+    LineRead::Calling(call)
+}
+
+// The field at place i of a line: the code, then the numbers.
+fn field_at(line: &[u8], i: usize) -> Field
+    requires { ⌜ (length (now line) ≡ 72) × (i < 6) ⌝ }
+    ensures { λ r. ⌜ r ≡ fieldOf (take (getD callColumns i 0) (drop (14 * i - 12) (now (line .entry)))) ⌝ }
+{
+    if i == 0 {
+        return field_in(&line[..2]);
+    }
+    let to = 14 * i + 2;
+    field_in(&line[to - 14..to])
+}
+
+// The numbers of a line.
+fn numbers_in(line: &[u8]) -> Row
+    requires { ⌜ length (now line) ≡ 72 ⌝ }
+    ensures { λ r. ⌜ rowNumbers r ≡ numbersIn callColumns (now (line .entry)) ⌝ }
+{
+    let mut numbers = [0u64; 6];
+    let mut i: usize = 0;
+    while i < 6 {
+        let Field::Number(n) = field_at(line, i) else {
+            return Row {
+                readable: false,
+                numbers,
+            };
+        };
+        numbers[i] = n;
+        i += 1;
+    }
+    Row {
+        readable: true,
+        numbers,
+    }
+}
+
+// What an input line says, given without its line feed.
+pub fn read_line(line: &[u8]) -> LineRead
+    ensures { λ r. ⌜ r ≡ lineRead (now (line .entry)) ⌝ }
+{
+    if line.len() != 72 {
+        return LineRead::Unreadable;
+    }
+    let row = numbers_in(line);
+    let n = row.numbers;
+    if !row.readable {
+        return LineRead::Unreadable;
+    }
+    said_by(n[0], n[1], n[2], n[3], n[4], n[5])
+}
+
+// ---- writing
+
+// The last digit of n.
+fn digit_of(n: u64) -> u8
+    ensures { λ r. ⌜ r ≡ digitOf n ⌝ }
+{
+    48 + (n % 10) as u8
+}
+
+// A column left of a number's last digit: a digit of what is left of it, or a space where nothing is left.
+fn left_digit(n: u64) -> u8
+    ensures { λ r. ⌜ r ≡ leftDigit n ⌝ }
+{
+    if n == 0 {
+        return 32;
+    }
+    digit_of(n)
+}
+
+// n right-justified in the w columns that end with column `end`. The columns after them stay.
+fn put(line: [u8; 44], end: usize, w: usize, n: u64) -> [u8; 44]
+    requires { ⌜ (0 < w) × (w ≤ end) × (end ≤ 44) ⌝ }
+    ensures { λ r. ⌜ drop (end - w) r ≡ text w n ++ drop end line ⌝ }
+{
+    let mut out = line;
+    let first = end - w;
+    let mut i = end - 1;
+    out[i] = digit_of(n);
+    let mut rest = n / 10;
+    while first < i {
+        i -= 1;
+        out[i] = left_digit(rest);
+        rest = rest / 10;
+    }
+    out
+}
+
+// The output line of an answer, without its line feed.
+pub fn render(a: Numbers) -> [u8; 44]
+    ensures { λ r. ⌜ r ≡ answerText a ⌝ }
+{
+    let line = [32u8; 44];
+    let line = put(line, 44, 14, a.third);
+    let line = put(line, 30, 14, a.second);
+    let line = put(line, 16, 14, a.first);
+    put(line, 2, 2, a.number)
+}
