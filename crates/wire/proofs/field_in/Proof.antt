@@ -53,26 +53,20 @@ enum-known-s c = search needs
 enum-told-2 : tie.Need-enum-told-2 Inv-loop μ-loop
 enum-told-2 c = search needs
 
+-- the field is read to its end
+whole : (c : tie.After-loop Inv-loop μ-loop) → columns Blank (c .before .before .before .args .field .now) ≡ c .before .loop .s
+whole c =
+    let s = c .before in
+    s .loop .inv .2 ∙ columns-end (s .loop .s) (s .before .before .args .field .now) (s .loop .i) (omega arith)
+
 returns : tie.Need-returns Inv-loop μ-loop
-returns c =
-    let s = c .before .before .before in
-    let field = s .before .before .args .field .now in
-    let whole = s .loop .inv .2 ∙ columns-end (s .loop .s) field (s .loop .i) (omega arith) in
-    sym (ap ended (whole ∙ c .enum-told .given .1))
+returns c = sym (ap ended (whole (c .before .before) ∙ c .enum-told .given .1))
 
 returns-2 : tie.Need-returns-2 Inv-loop μ-loop
-returns-2 c =
-    let s = c .before .before .before .before in
-    let field = s .before .before .args .field .now in
-    let whole = s .loop .inv .2 ∙ columns-end (s .loop .s) field (s .loop .i) (omega arith) in
-    sym (ap ended (whole ∙ c .before .s .given .1))
+returns-2 c = sym (ap ended (whole (c .before .before .before) ∙ c .before .s .given .1))
 
 returns-3 : tie.Need-returns-3 Inv-loop μ-loop
-returns-3 c =
-    let s = c .before .before .before in
-    let field = s .before .before .args .field .now in
-    let whole = s .loop .inv .2 ∙ columns-end (s .loop .s) field (s .loop .i) (omega arith) in
-    sym (ap ended (whole ∙ c .enum-told2 .given .1))
+returns-3 c = sym (ap ended (whole (c .before .before) ∙ c .enum-told2 .given .1))
 
 pub field-in-spec : {M : Type 1} → statement M
 field-in-spec =
