@@ -113,3 +113,8 @@ pub answer-read : (a : Numbers) → Fits answerColumns (a .number ∷ a .first �
     → numbersIn answerColumns (answerText a) ≡ some (a .number ∷ a .first ∷ a .second ∷ a .third ∷ [])
 unfolding answerText
 answer-read a f = numbers-read answerColumns (a .number ∷ a .first ∷ a .second ∷ a .third ∷ []) f
+
+-- an output line has 44 bytes before its line feed
+pub answer-long : (a : Numbers) → length (answerText a) ≡ 44
+unfolding answerText textOf
+answer-long a = simp (length-append, text-long)

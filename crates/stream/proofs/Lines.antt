@@ -1,0 +1,129 @@
+-- Laws of a session, byte by byte. Assumes nothing.
+use Prim.Native.Nat.{ℕ, zero, suc, _+_, _≤_, _<_}
+use native.Mathlib.Omega.{arith}
+use mathlib.Core.Path.{_≡_, refl, sym, ap, _∙_}
+use mathlib.Core.Bool.{Bool, true, false, cond}
+use mathlib.Core.List.{List, [], _∷_, _++_, append-assoc, append-nil}
+use lib.Dec.{eqb, leb}
+use lib.ListN.{length, take, drop, getD, length-take, take-append-drop}
+use lib.Seq.{take-all, take-take, length-take-le, drop-cons}
+use native.Mathlib.Numerals.{add-one}
+use borrow.Author.Tests.{eq-eqb, ne-eqb, eqb-true, eqb-false, leb-true, leb-false}
+use Rattle.brake.proofs.Tests.{by-test}
+use Rattle.calls.specs.declared.Numbers.{Numbers}
+use Rattle.wire.specs.Format.{lineRead}
+use Rattle.wire.specs.declared.LineRead.{LineRead}
+use Rattle.stream.specs.declared.Session.{Session}
+use Rattle.stream.specs.declared.Reply.{Reply}
+use Rattle.stream.specs.declared.Stream.{Stream}
+use Rattle.stream.specs.Session.{replyTo, answered}
+use Rattle.stream.specs.Input.{lines, rest, after, outputLine, answers, begun, kept, Taken}
+
+-- Where a session stands once it has taken bytes in: the state, the line that has begun, and what has been written.
+pub record Standing : Type 0 where
+  pub session : Session
+  pub begins : List ℕ
+  pub written : List ℕ
+
+abbrev pub standing : Session → List ℕ → List ℕ → List ℕ → Standing
+standing s g w bs = record { session = after s (lines g bs); begins = kept (rest g bs); written = w ++ answers s (lines g bs) }
+
+-- ---- of a line that is too long 73 bytes are enough
+
+read-long : (l : List ℕ) → 73 < length l → lineRead (kept l) ≡ lineRead l
+unfolding lineRead
+read-long l h =
+    let e : (length (kept l) ≡ 72 → ⊥) = λ p. omega (arith, length-take 73 l) in
+    simp (ne-eqb (length (kept l)) 72 e, ne-eqb (length l) 72 (λ p. omega arith))
+
+read-kept : (l : List ℕ) → lineRead (kept l) ≡ lineRead l
+read-kept l =
+    by-test (leb (length l) 73)
+    (λ e. ap lineRead (take-all 73 l (leb-true _ _ e)))
+    (λ e. read-long l (leb-false _ _ e))
+
+kept-append : (n : ℕ) (l r : List ℕ) → take n (take n l ++ r) ≡ take n (l ++ r)
+kept-append zero l r = refl
+kept-append (suc n) [] r = refl
+kept-append (suc n) (x ∷ l) r = ap (λ (m : List ℕ). x ∷ m) (kept-append n l r)
+
+-- ---- one byte
+
+module _ (s : Session) (g w : List ℕ) (b : ℕ) (bs : List ℕ) where
+  -- a byte of a line
+  standing-byte : (b ≡ 10 → ⊥) → standing s g w (b ∷ bs) ≡ standing s (g ++ (b ∷ [])) w bs
+  unfolding lines rest
+  standing-byte h = simp (ne-eqb b 10 h)
+
+  -- a line feed: the line is answered
+  pub standing-line : b ≡ 10
+      → standing s g w (b ∷ bs) ≡ standing (answered s g .session) [] (w ++ outputLine (answered s g .answer)) bs
+  unfolding lines rest after answers
+  standing-line h = simp (eq-eqb b 10 h, append-assoc)
+
+-- what is beyond the first 73 bytes of the line that has begun makes no difference
+pub standing-kept : (s : Session) (g w bs : List ℕ) → standing s (kept g) w bs ≡ standing s g w bs
+unfolding lines rest after answers
+standing-kept s g w [] = ap (λ (h : List ℕ). record { session = s; begins = h; written = w ++ [] }) (take-take 73 73 g (omega arith))
+standing-kept s g w (b ∷ bs) =
+    by-test (eqb b 10)
+    (λ e.
+    let h : b ≡ 10 = eqb-true b 10 e in
+    standing-line s (kept g) w b bs h
+    ∙ ap (λ (r : LineRead). standing (replyTo s r .session) [] (w ++ outputLine (replyTo s r .answer)) bs) (read-kept g)
+    ∙ sym (standing-line s g w b bs h))
+    (λ e.
+    let h : (b ≡ 10 → ⊥) = eqb-false b 10 e in
+    standing-byte s (kept g) w b bs h
+    ∙ sym (standing-kept s (kept g ++ (b ∷ [])) w bs)
+    ∙ ap (λ (l : List ℕ). standing s l w bs) (kept-append 73 g (b ∷ []))
+    ∙ standing-kept s (g ++ (b ∷ [])) w bs
+    ∙ sym (standing-byte s g w b bs h))
+
+-- a byte of a line: it is kept if it is among the first 73
+pub standing-more : (s : Session) (g w : List ℕ) (b : ℕ) (bs : List ℕ) → (b ≡ 10 → ⊥)
+    → standing s g w (b ∷ bs) ≡ standing s (kept (g ++ (b ∷ []))) w bs
+standing-more s g w b bs h = standing-byte s g w b bs h ∙ sym (standing-kept s (g ++ (b ∷ [])) w bs)
+
+-- no byte more
+pub standing-end : (s : Session) (g w : List ℕ) → standing s g w [] ≡ record { session = s; begins = kept g; written = w }
+unfolding lines rest after answers
+standing-end s g w = ap (λ (v : List ℕ). record { session = s; begins = kept g; written = v }) (append-nil w)
+
+-- ---- feeding a piece
+
+module _ (s : Session) (g w piece : List ℕ) (i : ℕ) (more : i < length piece) where
+  next : standing s g w (drop i piece) ≡ standing s g w (getD piece i 0 ∷ drop (i + 1) piece)
+  next = ap (standing s g w) (rw (add-one i) (drop-cons piece i 0 more))
+
+  -- the byte at place i is kept
+  pub byte-taken : (h : List ℕ) → (getD piece i 0 ≡ 10 → ⊥) → h ≡ kept (g ++ (getD piece i 0 ∷ []))
+      → standing s g w (drop i piece) ≡ standing s h w (drop (i + 1) piece)
+  byte-taken h n e =
+      next ∙ standing-more s g w (getD piece i 0) (drop (i + 1) piece) n
+      ∙ ap (λ (l : List ℕ). standing s l w (drop (i + 1) piece)) (sym e)
+
+  -- the line feed at place i: the line is answered
+  pub line-taken : (r : Reply) (v : List ℕ) → getD piece i 0 ≡ 10 → r ≡ answered s g → v ≡ w ++ outputLine (r .answer)
+      → standing s g w (drop i piece) ≡ standing (r .session) [] v (drop (i + 1) piece)
+  line-taken r v n e f =
+      next ∙ standing-line s g w (getD piece i 0) (drop (i + 1) piece) n
+      ∙ ap (λ (q : Reply). standing (q .session) [] (w ++ outputLine (q .answer)) (drop (i + 1) piece)) (sym e)
+      ∙ ap (λ (l : List ℕ). standing (r .session) [] l (drop (i + 1) piece)) (sym f)
+
+-- the whole piece is taken: out holds the first `at` bytes as written and the others as before
+module _ (x : Stream) (piece before out bytes : List ℕ) (s : Session) (count at : ℕ) where
+  pub piece-taken : at ≤ length out → length bytes ≡ 73 → drop at out ≡ drop at before
+      → standing (x .session) (begun x) [] piece ≡ record { session = s; begins = kept (take count bytes); written = take at out }
+      → Taken x piece before (record { taken = true; stream = record { session = s; bytes = bytes; count = count }; count = at }) out
+  piece-taken room long same e =
+      let w : answers (x .session) (lines (begun x) piece) ≡ take at out = ap (λ (z : Standing). z .written) e in
+      let n : at ≡ length (answers (x .session) (lines (begun x) piece)) = sym (ap length w ∙ length-take-le at out room) in
+      let all : kept (take count bytes) ≡ take count bytes = take-all 73 (take count bytes) (omega (arith, length-take count bytes)) in
+      record {
+        session = sym (ap (λ (z : Standing). z .session) e);
+        begins = sym (ap (λ (z : Standing). z .begins) e ∙ all);
+        written = sym (take-append-drop at out) ∙ ap (λ (l : List ℕ). l ++ drop at out) (sym w) ∙ ap (λ (l : List ℕ). answers (x .session) (lines (begun x) piece) ++ l) same
+            ∙ ap (λ (k : ℕ). answers (x .session) (lines (begun x) piece) ++ drop k before) n;
+        count = n;
+      }

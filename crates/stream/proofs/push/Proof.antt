@@ -1,0 +1,25 @@
+-- `stream::push` meets its contract.
+-- Assumes nothing.
+use Prim.Native.Nat.{_-_}
+use borrow.Author.Needs.{needs}
+use Rattle.stream.proofs.Bytes.{keep-more, keep-full}
+use Rattle.stream.proofs.push.Statement.{statement}
+use Rattle.stream.proofs.push.Tie as tie
+
+slice-write-bytes : tie.Need-slice-write-bytes
+slice-write-bytes c = search needs
+
+add-result : tie.Need-add-result
+add-result c = search needs
+
+same-length : tie.Need-same-length
+same-length c = search needs
+
+returns : tie.Need-returns
+returns c = let a = c .before .args in keep-more (a .bytes .now) (a .count) (a .b) (c .before .pre) (c .if1 .taken)
+
+returns-2 : tie.Need-returns-2
+returns-2 c = let a = c .before .args in keep-full (a .bytes .now) (a .count) (a .b) (c .before .pre) (c .if1 .left)
+
+pub push-spec : {M : Type 1} → statement M
+push-spec = tie.close (tie.spec slice-write-bytes add-result same-length returns returns-2)

@@ -1,0 +1,3 @@
+pub mod Demand3
+pub mod Input
+pub mod Session

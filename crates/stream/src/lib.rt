@@ -1,0 +1,248 @@
+// A session: the state between lines, and the input cut into lines. Document 01, "The session program".
+ghost use mathlib.Core.Path.{_≡_};
+ghost use mathlib.Core.Bool.{true};
+ghost use mathlib.Core.List.{[], _∷_, _++_};
+ghost use Prim.Native.Nat.{_+_, _*_, _≤_};
+ghost use lib.ListN.{length, take};
+ghost use lib.Seq.{paste};
+ghost use Rattle.calls.specs.Answers.{numbers};
+ghost use Rattle.wire.specs.declared.LineRead.the-variants.{Opening, Calling};
+ghost use Rattle.stream.specs.Session.{closed, turnedDown, replyTo, answered};
+ghost use Rattle.stream.specs.Input.{outputLine, lastAnswer, begun, kept, over, lastWritten, Taken, FeedPromise};
+use calls::Call;
+use calls::Numbers;
+use motion::Limits;
+use table::Table;
+use train::Settings;
+use wire::LineRead;
+
+// The state between lines: whether an opening was accepted, and the table that it made.
+pub struct Session {
+    pub opened: bool,
+    pub table: Table,
+}
+
+// The answer to a line, and the state after it.
+pub struct Reply {
+    pub answer: Numbers,
+    pub session: Session,
+}
+
+// A session in the middle of its input: the first bytes of the line that has begun. 73 are enough to tell that it is too long.
+pub struct Stream {
+    pub session: Session,
+    pub bytes: [u8; 73],
+    pub count: usize,
+}
+
+// What became of a piece of the input: whether it was taken, the stream after it, and how many bytes were written.
+pub struct Fed {
+    pub taken: bool,
+    pub stream: Stream,
+    pub count: usize,
+}
+
+// ---- one line
+
+fn turn_down(s: Session, n: u64) -> Reply
+    ensures { λ r. ⌜ r ≡ turnedDown n s ⌝ }
+{
+    Reply {
+        answer: Numbers {
+            number: n,
+            first: 0,
+            second: 0,
+            third: 0,
+        },
+        session: s,
+    }
+}
+
+// An opening: 2 after an accepted one.
+fn answer_opening(s: Session, settings: Settings) -> Reply
+    ensures { λ r. ⌜ r ≡ replyTo s (Opening settings) ⌝ }
+{
+    if s.opened {
+        return turn_down(s, 2);
+    }
+    let o = line::open(settings);
+    let a = o.answer;
+    let table = o.table;
+    let n = calls::numbers_of(a);
+    if n.number != 0 {
+        return Reply {
+            answer: n,
+            session: s,
+        };
+    }
+    Reply {
+        answer: n,
+        session: Session {
+            opened: true,
+            table,
+        },
+    }
+}
+
+// A call on the table: 2 before an accepted opening.
+fn answer_call(s: Session, call: Call) -> Reply
+    ensures { λ r. ⌜ r ≡ replyTo s (Calling call) ⌝ }
+{
+    if !s.opened {
+        return turn_down(s, 2);
+    }
+    let o = line::apply(s.table, call);
+    let a = o.answer;
+    let table = o.table;
+    Reply {
+        answer: calls::numbers_of(a),
+        session: Session {
+            opened: true,
+            table,
+        },
+    }
+}
+
+// Answers a line, given without its line feed.
+pub fn answer(s: Session, line: &[u8]) -> Reply
+    ensures { λ r. ⌜ r ≡ answered s (now (line .entry)) ⌝ }
+{
+    let read = wire::read_line(line);
+    match read {
+        LineRead::Opening(settings) => answer_opening(s, settings),
+        LineRead::Calling(call) => answer_call(s, call),
+        LineRead::Unreadable => turn_down(s, 1),
+    }
+}
+
+// ---- the input in pieces
+
+// A stream at the start of its input.
+pub fn start() -> Stream
+    ensures { λ r. ⌜ (r .session ≡ closed) × (begun r ≡ []) ⌝ }
+{
+    let none = Settings {
+        end: 0,
+        safety: 0,
+        limits: Limits {
+            ceiling: 0,
+            traction: 0,
+        },
+    };
+    Stream {
+        session: Session {
+            opened: false,
+            table: table::empty_table(none),
+        },
+        bytes: [0u8; 73],
+        count: 0,
+    }
+}
+
+// One byte more of a line.
+fn push(bytes: &mut [u8], count: usize, b: u8) -> usize
+    requires { ⌜ length (now bytes) ≡ 73 ⌝ }
+    ensures { λ r. ⌜ take r (now (bytes .exit)) ≡ kept (take count (now (bytes .entry)) ++ (b ∷ [])) ⌝ }
+{
+    if count < 73 {
+        bytes[count] = b;
+        return count + 1;
+    }
+    count
+}
+
+// Answers the line in the first `count` bytes.
+fn answer_begun(s: Session, bytes: &[u8], count: usize) -> Reply
+    ensures { λ r. ⌜ r ≡ answered s (take count (now (bytes .entry))) ⌝ }
+{
+    if count < bytes.len() {
+        return answer(s, &bytes[..count]);
+    }
+    answer(s, bytes)
+}
+
+// Writes the output line of an answer into out, from place `at` on.
+fn put_line(out: &mut [u8], at: usize, a: Numbers)
+    requires { ⌜ at + 45 ≤ length (now out) ⌝ }
+    ensures { λ _. ⌜ now (out .exit) ≡ paste (now (out .entry)) at (outputLine a) 45 ⌝ }
+{
+    let line = wire::render(a);
+    let mut i: usize = 0;
+    while i < 44 {
+        out[at + i] = line[i];
+        i += 1;
+    }
+    out[at + 44] = 10;
+}
+
+fn feed_all(x: Stream, piece: &[u8], out: &mut [u8]) -> Fed
+    requires { ⌜ 45 * length (now piece) ≤ length (now out) ⌝ }
+    ensures { λ r. ⌜ (r .taken ≡ true) × Taken x (now (piece .entry)) (now (out .entry)) r (now (out .exit)) ⌝ }
+{
+    let mut session = x.session;
+    let mut bytes = x.bytes;
+    let mut count = x.count;
+    let mut at: usize = 0;
+    let mut i: usize = 0;
+    while i < piece.len() {
+        let b = piece[i];
+        i += 1;
+        if b != 10 {
+            count = push(&mut bytes, count, b);
+            continue;
+        }
+        let r = answer_begun(session, &bytes, count);
+        put_line(out, at, r.answer);
+        at += 45;
+        session = r.session;
+        count = 0;
+    }
+    Fed {
+        taken: true,
+        stream: Stream {
+            session,
+            bytes,
+            count,
+        },
+        count: at,
+    }
+}
+
+// Takes the next piece of the input in, and writes the answers to the lines that it ends into out. A piece is not taken where out
+// has no room for the answers that it might need.
+pub fn feed(x: Stream, piece: &[u8], out: &mut [u8]) -> Fed
+    ensures { λ r. ⌜ FeedPromise x (now (piece .entry)) (now (out .entry)) r (now (out .exit)) ⌝ }
+{
+    if out.len() / 45 < piece.len() {
+        return Fed {
+            taken: false,
+            stream: x,
+            count: 0,
+        };
+    }
+    feed_all(x, piece, out)
+}
+
+// At the end of the input: writes the answer to a last line without its line feed into out, and tells how many bytes that is. Without
+// room for it nothing is written.
+pub fn finish(x: Stream, out: &mut [u8]) -> usize
+    ensures { λ r. ⌜ (now (out .exit) ≡ over (lastWritten x (now (out .entry))) (now (out .entry))) × (r ≡ length (lastWritten x (now (out .entry)))) ⌝ }
+{
+    if x.count == 0 {
+        return 0;
+    }
+    if out.len() < 45 {
+        return 0;
+    }
+    put_line(
+        out,
+        0,
+        Numbers {
+            number: 1,
+            first: 0,
+            second: 0,
+            third: 0,
+        },
+    );
+    45
+}
