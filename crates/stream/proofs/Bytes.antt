@@ -95,3 +95,9 @@ module _ (x : Stream) (out : List ℕ) where
   -- a line has begun
   pub line-begun : 45 ≤ length out → (x .count ≡ 0 → ⊥) → length (x .bytes) ≡ 73 → lastWritten x out ≡ outputLine (numbers 1 0 0 0)
   line-begun h n l = rw (le-leb 45 (length out) h) (some-answer (x .bytes) (x .count) l n)
+
+-- what is written over the first bytes is within the buffer
+pub over-within : (w out now : List ℕ) (n : ℕ) → now ≡ over w out → n ≡ length w → n ≤ length now
+over-within w out now n e f =
+    let long : length now ≡ length w + length (drop (length w) out) = ap length e ∙ length-append w (drop (length w) out) in
+    omega arith

@@ -16,8 +16,10 @@ use Rattle.wire.specs.declared.LineRead.{LineRead}
 use Rattle.stream.specs.declared.Session.{Session}
 use Rattle.stream.specs.declared.Reply.{Reply}
 use Rattle.stream.specs.declared.Stream.{Stream}
+use Rattle.stream.specs.declared.Fed.{Fed}
 use Rattle.stream.specs.Session.{replyTo, answered}
-use Rattle.stream.specs.Input.{lines, rest, after, outputLine, answers, begun, kept, Taken}
+use Rattle.stream.specs.Input.{lines, rest, after, outputLine, answers, begun, kept, Taken, TakenOrLeft, FeedPromise}
+use Rattle.stream.proofs.Bytes.{over-within}
 
 -- Where a session stands once it has taken bytes in: the state, the line that has begun, and what has been written.
 pub record Standing : Type 0 where
@@ -127,3 +129,11 @@ module _ (x : Stream) (piece before out bytes : List ℕ) (s : Session) (count a
             ∙ ap (λ (k : ℕ). answers (x .session) (lines (begun x) piece) ++ drop k before) n;
         count = n;
       }
+
+-- what is counted is within out
+pub counted-within : (x : Stream) (piece out : List ℕ) (r : Fed) (now : List ℕ) → FeedPromise x piece out r now → r .count ≤ length now
+counted-within x piece out r now p = within (r .taken) (p .so)
+  where
+    within : (q : Bool) → TakenOrLeft q x piece out r now → r .count ≤ length now
+    within true t = over-within (answers (x .session) (lines (begun x) piece)) out now (r .count) (t .written) (t .count)
+    within false t = let none : r .count ≡ 0 = t .count in omega arith
