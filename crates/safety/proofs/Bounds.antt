@@ -38,7 +38,7 @@ use Rattle.safety.proofs.Calls.{told}
 
 -- ---- one train
 
-record InRange (σ : Settings) : Type 0 where
+pub record InRange (σ : Settings) : Type 0 where
   pub end : σ .end ≤ greatestLineEnd
   pub ceiling : σ .limits .ceiling ≤ greatestCeiling
   pub traction : σ .limits .traction ≤ greatestTraction
@@ -52,7 +52,7 @@ ranges σ e =
     record { end = between-both _ _ _ (one .0) .1; ceiling = between-both _ _ _ (two .1) .1; traction = between-both _ _ _ (three .1) .1 }
 
 -- a train on the line whose end is on it too
-record OnTrack (σ : Settings) (x : Train) : Type 0 where
+pub record OnTrack (σ : Settings) (x : Train) : Type 0 where
   pub ahead : Option Train
   pub guarded : Guarded σ ahead x
   pub end : x .end ≤ σ .end
@@ -105,14 +105,14 @@ module _ (σ : Settings) (t : Table) (opened : openStep σ ≡ outcome Done t) (
   abbrev left : Table
   left = after t cs
 
-  track : (i : ℕ) → i < left .count → OnTrack (left .settings) (trainAt left i)
+  pub track : (i : ℕ) → i < left .count → OnTrack (left .settings) (trainAt left i)
   track i h =
       let es = history t cs in
       let T = told σ t opened cs in
       let count = told-count σ es left T in
       rw (told-train σ es left T i h) (lined-track (left .settings) none (stays es) i (λ place limit. limit) (T .lined) (omega arith))
 
-  left-ranges : InRange (left .settings)
+  pub left-ranges : InRange (left .settings)
   left-ranges = rw (told σ t opened cs .settings) (ranges σ (open-made σ t opened .0))
 
   pub always-computable : (i : ℕ) → i < left .count → computable (trainAt left i) ≡ true

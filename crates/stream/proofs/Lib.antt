@@ -1,2 +1,5 @@
 pub mod Bytes
+pub mod Fitting
 pub mod Lines
+pub mod Pieces
+pub mod Safe

@@ -51,6 +51,7 @@ pub record Opened (ls : List (List ℕ)) : Type 0 where
   pub not-yet : after closed earlier ≡ closed
   pub opening : lineRead line ≡ Opening settings
   pub accepted : openStep settings ≡ outcome Done table
+  pub opens : answered closed line .session ≡ session true table
   pub now : after closed ls ≡ session true (History.after table (callsIn since))
   pub events : eventsIn (session true table) since ≡ history table (callsIn since)
   pub demand : Demand3 settings table (callsIn since)

@@ -1,0 +1,276 @@
+//! Random actions of a scene: calls that fit the table, that just do not fit
+//! it, and that are far off.
+
+use crate::brake::STEPS_PER_FOOT;
+use crate::call::{Call, Entry};
+use crate::line::{Line, LAST_ID, LAST_NUMBER};
+use crate::scene::{Scene, WIDEST};
+use crate::train::Train;
+
+impl Scene {
+    /// One action of any kind, for a train on the line or to come.
+    pub fn step(&mut self) {
+        match self.random.below(100) {
+            0..=34 => self.run_on(),
+            35..=60 => self.ask_for_more(),
+            61..=71 => self.call_some_back(),
+            72..=75 => self.name_one(|id| Call::Hold { id }),
+            76..=81 => self.name_one(|id| Call::Lift { id }),
+            82..=85 => self.brake_and_release(),
+            86..=89 => self.stop_and_take_off(),
+            90..=91 => self.name_one(|id| Call::TakeOff { id }),
+            92..=98 => self.let_in(),
+            _ => self.name_a_stranger(),
+        }
+    }
+
+    /// Some reports of one train, most of them allowed.
+    pub fn run_on(&mut self) {
+        let Some((index, _)) = self.pick() else {
+            return self.let_in();
+        };
+        let manner = self.random.below(4);
+        for _ in 0..self.random.scaled(50) {
+            let Some(train) = self.train(index) else {
+                return;
+            };
+            if self.random.once_in(20) {
+                self.report_wrongly(&train);
+            }
+            match manner {
+                0 => self.report_less(&train),
+                1 => self.report_nearly_worst(&train),
+                _ => self.report_worst(&train),
+            }
+        }
+    }
+
+    /// Brings one train to speed as far as its end lets it.
+    pub fn run_fast(&mut self) {
+        let Some((index, _)) = self.pick() else {
+            return self.let_in();
+        };
+        let reports = self.random.between(1, 450);
+        self.run_at_worst(index, reports);
+    }
+
+    fn report_less(&mut self, train: &Train) {
+        let worst = self.worst(train);
+        let head = self.random.between(train.motion.head, worst.head);
+        let speed = self.random.between(0, worst.speed);
+        self.report(train, head, speed);
+    }
+
+    fn report_nearly_worst(&mut self, train: &Train) {
+        let worst = self.worst(train);
+        let head = worst.head - self.random.below(3);
+        let speed = worst.speed.saturating_sub(self.random.below(3));
+        self.report(train, head.max(train.motion.head), speed);
+    }
+
+    /// A report that is not allowed, by one or by much.
+    fn report_wrongly(&mut self, train: &Train) {
+        let worst = self.worst(train);
+        let (last, far, fast) = (train.motion.head, worst.head, worst.speed);
+        let (head, speed) = match self.random.below(8) {
+            0 | 1 => (far + 1, self.random.between(0, fast)),
+            2 | 3 => (self.random.between(last, far), fast + 1),
+            4 | 5 => (last.saturating_sub(1), self.random.between(0, fast)),
+            6 => (far + self.random.scaled(1_000_000), fast),
+            _ => self.random.pick(&[(0, 0), (far, WIDEST), (WIDEST, 0)]),
+        };
+        self.report(train, head, speed);
+    }
+
+    /// An extension: mostly a new number and track that is there.
+    pub fn ask_for_more(&mut self) {
+        let Some((index, train)) = self.pick() else {
+            return self.let_in();
+        };
+        let free = self.limit(index).saturating_sub(train.end);
+        let new = train.number + self.random.pick(&[1, 1, 1, 1, 2, 1000]);
+        let last_length = train.length.unwrap_or(1);
+        let (number, length) = match self.random.below(24) {
+            0 | 1 => (train.number, last_length),
+            2 => (train.number, last_length + self.random.scaled(1000)),
+            3 => (train.number, last_length.saturating_sub(1)),
+            4 => (train.number.saturating_sub(1), last_length),
+            5 => (self.random.between(0, train.number), last_length),
+            6 | 7 => (new, free + 1),
+            8 => (new, free + self.random.scaled(1_000_000)),
+            9 | 10 => (new, free),
+            11 => (0, 1),
+            12 => (LAST_NUMBER + 1, 1),
+            13 => (new, 0),
+            14 => (self.random.between(new, LAST_NUMBER.max(new)), 1),
+            _ => (new, self.piece(free)),
+        };
+        self.extend(&train, number, length);
+    }
+
+    /// A length of track, small or large, mostly within what is free.
+    fn piece(&mut self, free: u64) -> u64 {
+        let most = match self.random.below(4) {
+            0 => 1000,
+            1 => 20_000_000,
+            _ => free,
+        };
+        self.random.scaled(most)
+    }
+
+    pub fn call_some_back(&mut self) {
+        match self.pick() {
+            Some((_, train)) => self.call_back(&train),
+            None => self.let_in(),
+        }
+    }
+
+    /// A call back to the reach or the end, or just beyond them.
+    fn call_back(&mut self, train: &Train) {
+        let (id, end, reach) = (train.id, train.end, self.reach(train));
+        let place = match self.random.below(10) {
+            0 | 1 => reach,
+            2 | 3 => reach.saturating_sub(1),
+            4 => end,
+            5 => end + 1,
+            6 => train.motion.head,
+            7 => self.random.pick(&[0, WIDEST]),
+            _ => self.random.between(reach.min(end), end),
+        };
+        self.call(Call::CallBack { id, place });
+    }
+
+    /// A call that names any train on the line and nothing else.
+    pub fn name_one(&mut self, call: fn(u64) -> Call) {
+        match self.pick() {
+            Some((_, train)) => self.call(call(train.id)),
+            None => self.let_in(),
+        }
+    }
+
+    /// A hold and its lift while the brake builds up.
+    fn brake_and_release(&mut self) {
+        let Some((index, train)) = self.pick() else {
+            return self.let_in();
+        };
+        let id = train.id;
+        for call in [Call::Hold { id }, Call::Lift { id }] {
+            self.call(call);
+            if let Some(train) = self.train(index) {
+                self.call_back(&train);
+                self.report_wrongly(&train);
+            }
+            let reports = self.random.scaled(30);
+            self.run_at_worst(index, reports);
+        }
+    }
+
+    /// Brings the first train to a stand under brake and takes it off. It is
+    /// tried at each stage, since only the last one is allowed.
+    pub fn stop_and_take_off(&mut self) {
+        let Some(id) = self.trains().first().map(|train| train.id) else {
+            return self.let_in();
+        };
+        self.call(Call::Hold { id });
+        for stage in 0..3 {
+            if self.random.once_in(2) {
+                self.call(Call::TakeOff { id });
+            }
+            let Some(train) = self.train(0).filter(|train| train.id == id) else {
+                return;
+            };
+            let worst = self.worst(&train);
+            let speed = if stage == 0 { worst.speed } else { 0 };
+            self.report(&train, worst.head, speed);
+        }
+        self.call(Call::TakeOff { id });
+    }
+
+    /// Brings a train to speed and holds it until well after it must stand.
+    pub fn hold_to_a_stand(&mut self) {
+        let Some((index, train)) = self.pick() else {
+            return self.let_in();
+        };
+        let Some(settings) = self.line().map(Line::settings) else {
+            return;
+        };
+        let full_speed = settings.ceiling / settings.traction + 1;
+        let reports = self.random.scaled(full_speed.min(450));
+        self.run_at_worst(index, reports);
+        let count = train.brake.held_count(settings.ceiling);
+        let again = self.random.between(1, count);
+        for reports in [again, count + 3 - again] {
+            self.call(Call::Hold { id: train.id });
+            self.run_at_worst(index, reports);
+        }
+    }
+
+    /// An entering behind the last train, at or near its limit.
+    pub fn let_in(&mut self) {
+        if self.trains().len() >= self.profile().most_trains && !self.random.once_in(4) {
+            return self.run_on();
+        }
+        let longest = self.profile().longest_feet;
+        let feet = match self.random.below(4) {
+            0 => longest,
+            _ => self.random.scaled(longest),
+        };
+        let shortest = feet * STEPS_PER_FOOT;
+        let limit = self.limit(self.trains().len());
+        let head = match self.random.below(10) {
+            0 => shortest,
+            1 => shortest - 1,
+            2 => limit + 1,
+            3 | 4 => limit,
+            5 => limit.saturating_sub(self.random.scaled(100_000_000)),
+            _ => self.random.between(shortest.min(limit), limit),
+        };
+        let entry = Entry {
+            id: self
+                .random
+                .between(1, 2 * self.profile().most_trains as u64),
+            head,
+            feet,
+            class: self.random.between(1, 3),
+            start: self.starting_number(),
+        };
+        self.enter(entry);
+    }
+
+    fn starting_number(&mut self) -> u64 {
+        match self.random.below(8) {
+            0 => self.random.between(1, 10),
+            1 => self.random.between(LAST_NUMBER - 3, LAST_NUMBER),
+            2 => self.random.scaled(LAST_NUMBER),
+            _ => 0,
+        }
+    }
+
+    /// A call that names a train which is not there.
+    pub fn name_a_stranger(&mut self) {
+        let on_line: Vec<u64> = self.trains().iter().map(|train| train.id).collect();
+        let mut id = self.random.pick(&[0, LAST_ID, LAST_ID + 1, WIDEST]);
+        if self.random.once_in(2) {
+            id = self.random.between(1, LAST_ID);
+        }
+        while on_line.contains(&id) {
+            id += 1;
+        }
+        let number = self.random.pick(&[0, 1, LAST_NUMBER + 1]);
+        let call = self.random.pick(&calls_naming(id, number));
+        self.call(call);
+    }
+}
+
+/// Each call that names a train.
+pub fn calls_naming(id: u64, number: u64) -> [Call; 6] {
+    let (head, speed, length, place) = (1, 0, 1, 1);
+    [
+        Call::Report { id, head, speed },
+        Call::Extend { id, number, length },
+        Call::CallBack { id, place },
+        Call::Hold { id },
+        Call::Lift { id },
+        Call::TakeOff { id },
+    ]
+}

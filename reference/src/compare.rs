@@ -1,0 +1,202 @@
+//! Runs the program under test and compares it with the second implementation.
+
+use crate::call::{Answer, Call, Settings};
+use crate::claim::{self, Reached};
+use crate::fault::Fault;
+use crate::session;
+use crate::wire::{lines, read_answer, read_call, whole_line};
+use std::io::{Read, Write};
+use std::path::{Path, PathBuf};
+use std::process::{Command, Stdio};
+use std::sync::mpsc::{self, RecvTimeoutError};
+use std::thread;
+use std::time::Duration;
+
+pub const ANSWERS: usize = 16;
+/// Call codes 1 to 8, and 0 for unreadable lines.
+pub const CODES: usize = 9;
+
+/// A program that takes longer for one list is stopped, and so fails.
+const PATIENCE: Duration = Duration::from_secs(60);
+
+/// The program under test: the variable SESSION, or the built program.
+pub fn program() -> PathBuf {
+    if let Some(path) = std::env::var_os("SESSION") {
+        return PathBuf::from(path);
+    }
+    PathBuf::from(concat!(
+        env!("CARGO_MANIFEST_DIR"),
+        "/../target/bin/session"
+    ))
+}
+
+/// An error that says what to do where the program is missing.
+pub fn must_exist(program: &Path) -> Result<(), String> {
+    if program.is_file() {
+        return Ok(());
+    }
+    Err(format!(
+        "{} is missing: build the session program first, or name one with SESSION",
+        program.display()
+    ))
+}
+
+/// The whole output of a program for a whole input.
+pub fn run(program: &Path, input: &[u8]) -> Result<Vec<u8>, String> {
+    must_exist(program)?;
+    let failed = |what: &str, error| format!("{}: {what}: {error}", program.display());
+    let mut child = Command::new(program)
+        .stdin(Stdio::piped())
+        .stdout(Stdio::piped())
+        .spawn()
+        .map_err(|error| failed("cannot be started", error))?;
+    let mut to_child = child.stdin.take().ok_or("no standard input")?;
+    let mut from_child = child.stdout.take().ok_or("no standard output")?;
+    let mut output = Vec::new();
+    let stopped = &mut child;
+    let (done, all_read) = mpsc::channel::<()>();
+    thread::scope(|scope| {
+        // A program that stops early is found by its output and exit status.
+        scope.spawn(move || to_child.write_all(input).is_ok());
+        scope.spawn(move || {
+            let late = all_read.recv_timeout(PATIENCE) == Err(RecvTimeoutError::Timeout);
+            late && stopped.kill().is_ok()
+        });
+        let result = from_child.read_to_end(&mut output);
+        drop(done);
+        result
+    })
+    .map_err(|error| failed("its output cannot be read", error))?;
+    let status = child.wait().map_err(|error| failed("no status", error))?;
+    if !status.success() {
+        return Err(format!("{} ended with {status}", program.display()));
+    }
+    Ok(output)
+}
+
+/// Where a program is wrong. Lines are counted from 1.
+#[derive(Clone, Debug, PartialEq, Eq)]
+pub struct Failure {
+    pub line: usize,
+    pub why: String,
+    pub expected: Vec<u8>,
+    pub found: Vec<u8>,
+}
+
+/// Accepted reports by the order that they were answered with.
+#[derive(Clone, Copy, Debug, Default, PartialEq, Eq)]
+pub struct Orders {
+    /// Drive with all that engine and ceiling allow.
+    pub free: u64,
+    /// Drive with a smaller cap, since the end is near.
+    pub bound: u64,
+    pub brake: u64,
+}
+
+/// What the compared lists held.
+#[derive(Clone, Debug, Default, PartialEq, Eq)]
+pub struct Counts {
+    pub lists: u64,
+    pub lines: u64,
+    /// Lines by call code and answer number.
+    pub answers: [[u64; ANSWERS]; CODES],
+    pub orders: Orders,
+    /// Lists in which a hold lasted for the counted reports.
+    pub lists_held: u64,
+    /// Lists in which such a hold found the train moving.
+    pub lists_held_moving: u64,
+}
+
+impl Orders {
+    fn add(&mut self, answer: Answer, speed: u64, settings: Settings) {
+        let [order, cap, _] = answer.values;
+        let highest = settings.traction.min(settings.ceiling - speed);
+        match order {
+            1 if cap == highest => self.free += 1,
+            1 => self.bound += 1,
+            _ => self.brake += 1,
+        }
+    }
+}
+
+impl Counts {
+    pub fn by_number(&self, number: usize) -> u64 {
+        self.answers.iter().map(|row| row[number]).sum()
+    }
+
+    pub fn by_code(&self, code: usize) -> u64 {
+        self.answers[code].iter().sum()
+    }
+
+    fn add_list(&mut self, input: &[u8], expected: &[u8], reached: Reached) {
+        self.lists += 1;
+        self.lists_held += u64::from(reached.holds > 0);
+        self.lists_held_moving += u64::from(reached.moving > 0);
+        let mut settings = None;
+        for (line, answer) in lines(input).zip(lines(expected)) {
+            let call = whole_line(line).and_then(|line| read_call(line, Fault::None));
+            let Some(answer) = whole_line(answer).and_then(read_answer) else {
+                continue;
+            };
+            // A readable line has its code in the second column.
+            let code = call.map_or(0, |_| usize::from(line[1] - b'0'));
+            self.lines += 1;
+            self.answers[code][answer.number as usize] += 1;
+            if let Some(call) = call.filter(|_| answer.is_accepted()) {
+                self.add_order(call, answer, &mut settings);
+            }
+        }
+    }
+
+    /// Counts the order of an accepted report. The opening says what engine and
+    /// ceiling allow.
+    fn add_order(&mut self, call: Call, answer: Answer, settings: &mut Option<Settings>) {
+        match (call, *settings) {
+            (Call::Open(given), _) => *settings = Some(given),
+            (Call::Report { speed, .. }, Some(settings)) => {
+                self.orders.add(answer, speed, settings);
+            }
+            _ => {}
+        }
+    }
+}
+
+/// Compares an output with the second implementation and checks the claim.
+pub fn check(input: &[u8], output: &[u8], counts: &mut Counts) -> Result<(), Failure> {
+    let expected = session::run(input, Fault::None);
+    if let Some(failure) = first_difference(&expected, output) {
+        return Err(failure);
+    }
+    match claim::check(input, output) {
+        Ok(reached) => counts.add_list(input, &expected, reached),
+        Err(broken) => return Err(broken_claim(broken, &expected, output)),
+    }
+    Ok(())
+}
+
+/// The first line in which two outputs differ.
+pub fn first_difference(expected: &[u8], found: &[u8]) -> Option<Failure> {
+    if expected == found {
+        return None;
+    }
+    let same = lines(expected)
+        .zip(lines(found))
+        .take_while(|(one, other)| one == other)
+        .count();
+    Some(failure(same, "the answers differ", expected, found))
+}
+
+fn broken_claim(broken: claim::Broken, expected: &[u8], found: &[u8]) -> Failure {
+    let why = format!("the claim of demand 3 is broken: {}", broken.why);
+    failure(broken.line - 1, &why, expected, found)
+}
+
+fn failure(index: usize, why: &str, expected: &[u8], found: &[u8]) -> Failure {
+    let line = |text| lines(text).nth(index).unwrap_or_default().to_vec();
+    Failure {
+        line: index + 1,
+        why: why.to_string(),
+        expected: line(expected),
+        found: line(found),
+    }
+}

@@ -1,0 +1,29 @@
+//! A second implementation of the line controller, written from document 01
+//! alone, and the means to compare the session program with it.
+//!
+//! - `cargo test --release` runs the tests, those of the session program too.
+//! - `cargo run --release --bin compare` compares both on generated lists.
+//! - `cargo run --release --bin benchmark` measures both, after
+//!   `cargo build --release`.
+//!
+//! The session program is `../target/bin/session`, or the one that the variable
+//! SESSION names.
+
+pub mod actions;
+pub mod bench;
+pub mod brake;
+pub mod call;
+pub mod claim;
+pub mod compare;
+pub mod convoy;
+pub mod fault;
+pub mod generate;
+pub mod line;
+pub mod motion;
+pub mod random;
+pub mod ranges;
+pub mod scene;
+pub mod session;
+pub mod spoil;
+pub mod train;
+pub mod wire;

@@ -1,0 +1,85 @@
+//! Spoilt input lines: what a bad typist or a broken cable sends.
+
+use crate::random::Random;
+
+const ODD_CODES: [[u8; 2]; 8] = [
+    *b" 0", *b" 9", *b"01", *b"10", *b"1 ", *b"  ", *b"-1", *b"99",
+];
+const FIELDS: [usize; 5] = [2, 16, 30, 44, 58];
+const FIELD_BYTES: usize = 14;
+
+/// Spoils a line in one of many ways. Few of them leave it readable.
+pub fn spoil(line: &mut Vec<u8>, random: &mut Random) {
+    let field = random.pick(&FIELDS);
+    let column = field..field + FIELD_BYTES;
+    let place = random.below(line.len() as u64) as usize;
+    match random.below(20) {
+        0 => line.truncate(place),
+        1 => {
+            line.truncate(place);
+            line.push(b'\n');
+        }
+        2 => line.push(b'\n'),
+        3 => line[place] = random.draw() as u8,
+        4 => line.insert(place, random.pick(b" 0123456789")),
+        5 => line.insert(line.len() - 1, b'\r'),
+        6 => {
+            let last = line.len() - 2;
+            line[last] = b'\r';
+        }
+        7 => before_number(&mut line[column], random.pick(b"\t\0\x0b,.")),
+        8 => before_number(&mut line[column], random.pick(b"+-")),
+        9 | 10 => before_number(&mut line[column], b'0'),
+        11 => line[column].fill(b' '),
+        12 => line[column].fill(b'0'),
+        13 => line[..2].copy_from_slice(&random.pick(&ODD_CODES)),
+        14 => move_left(&mut line[column]),
+        15 | 16 => raise_last_number(line, random),
+        17 => lengthen(line, random),
+        18 => follow_with_more(line, random),
+        _ => noise(line, random),
+    }
+}
+
+/// Sets a byte in the last space before a number, or in its first digit.
+fn before_number(column: &mut [u8], byte: u8) {
+    let spaces = column.iter().take_while(|&&byte| byte == b' ').count();
+    let last = column.len() - 1;
+    column[spaces.saturating_sub(1).min(last)] = byte;
+}
+
+fn move_left(column: &mut [u8]) {
+    let spaces = column.iter().take_while(|&&byte| byte == b' ').count();
+    column.rotate_left(spaces);
+}
+
+/// The last number of a line is unused in most calls.
+fn raise_last_number(line: &mut [u8], random: &mut Random) {
+    let field = random.pick(&FIELDS[1..]);
+    line[field + FIELD_BYTES - 1] = b'0' + random.between(1, 9) as u8;
+}
+
+/// A line of thousands of bytes.
+fn lengthen(line: &mut Vec<u8>, random: &mut Random) {
+    let count = random.between(1, 9000) as usize;
+    let byte = random.pick(b" 01x\0");
+    line.pop();
+    line.resize(line.len() + count, byte);
+    line.push(b'\n');
+}
+
+/// A whole readable line with a second one after it, but one line feed.
+fn follow_with_more(line: &mut Vec<u8>, random: &mut Random) {
+    let times = random.between(2, 4) as usize;
+    line.pop();
+    *line = line.repeat(times);
+    line.push(b'\n');
+}
+
+/// Bytes of any kind, line feeds among them.
+fn noise(line: &mut Vec<u8>, random: &mut Random) {
+    let count = random.between(1, 200) as usize;
+    line.clear();
+    line.resize_with(count, || random.draw() as u8);
+    line.push(b'\n');
+}

@@ -1,0 +1,74 @@
+//! The record of one train.
+
+use crate::brake::{Brake, STEPS_PER_FOOT};
+use crate::call::Entry;
+use crate::fault::Fault;
+use crate::motion::{Motion, Order};
+
+/// One train record.
+#[derive(Clone, Copy, Debug, PartialEq, Eq)]
+pub struct Train {
+    pub id: u64,
+    pub feet: u64,
+    pub brake: Brake,
+    pub motion: Motion,
+    pub order: Order,
+    pub end: u64,
+    pub held: bool,
+    /// The last accepted request number, or the starting number before it.
+    pub number: u64,
+    /// The last accepted length, none before the first accepted extension.
+    pub length: Option<u64>,
+}
+
+impl Train {
+    /// A train that has just entered: standing at its end under the full brake.
+    pub fn entered(entry: Entry, brake: Brake) -> Train {
+        Train {
+            id: entry.id,
+            feet: entry.feet,
+            brake,
+            motion: Motion {
+                head: entry.head,
+                speed: 0,
+                level: brake.full,
+            },
+            order: Order::Brake,
+            end: entry.head,
+            held: false,
+            number: entry.start,
+            length: None,
+        }
+    }
+
+    /// Length in steps.
+    pub fn steps(&self) -> u64 {
+        self.feet * STEPS_PER_FOOT
+    }
+
+    /// The worst case of the last order.
+    pub fn worst(&self, fault: Fault) -> Motion {
+        self.motion.worst(self.order, self.brake, fault)
+    }
+
+    pub fn reach(&self, fault: Fault) -> u64 {
+        self.motion.reach(self.order, self.brake, fault)
+    }
+
+    /// Whether a report is within the worst case of the last order.
+    pub fn allows(&self, head: u64, speed: u64, worst: Motion, fault: Fault) -> bool {
+        let behind = u64::from(fault == Fault::HeadOneBehind);
+        let beyond = u64::from(fault == Fault::HeadOneBeyond);
+        let above = u64::from(fault == Fault::SpeedOneAbove);
+        head + behind >= self.motion.head
+            && head <= worst.head + beyond
+            && speed <= worst.speed + above
+    }
+
+    /// Standing under brake.
+    pub fn may_be_taken_off(&self, fault: Fault) -> bool {
+        let stands = self.motion.speed == 0 || fault == Fault::TakeOffMoving;
+        let braked = self.order == Order::Brake || fault == Fault::TakeOffUnderDrive;
+        stands && braked
+    }
+}

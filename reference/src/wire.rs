@@ -1,0 +1,161 @@
+//! Input lines and answer lines: numbers in columns, right-justified with
+//! spaces, without leading zeros.
+
+use crate::call::{Answer, Call, Entry, Settings};
+use crate::fault::Fault;
+
+/// Bytes of an input line without its line feed.
+pub const CALL_BYTES: usize = 72;
+/// Bytes of an answer line without its line feed.
+pub const ANSWER_BYTES: usize = 44;
+
+const CODE_BYTES: usize = 2;
+const FIELD_BYTES: usize = 14;
+
+/// None where the line is unreadable.
+pub fn read_call(line: &[u8], fault: Fault) -> Option<Call> {
+    let (code, fields) = read_columns::<5>(line, fault)?;
+    let (call, used) = call_of(code, fields)?;
+    let unused_are_zero = fields[used..].iter().all(|&field| field == 0);
+    (unused_are_zero || fault == Fault::UnusedIgnored).then_some(call)
+}
+
+/// None where the line is not an answer of the session program.
+pub fn read_answer(line: &[u8]) -> Option<Answer> {
+    let (number, values) = read_columns::<3>(line, Fault::None)?;
+    Some(Answer { number, values })
+}
+
+/// Adds an answer line with its line feed.
+pub fn put_answer(answer: Answer, out: &mut Vec<u8>) {
+    let mut line = [b' '; ANSWER_BYTES + 1];
+    put_columns(answer.number, answer.values, &mut line);
+    out.extend_from_slice(&line);
+}
+
+/// Adds an input line with its line feed.
+pub fn put_call(call: Call, out: &mut Vec<u8>) {
+    let (code, fields) = columns_of(call);
+    let mut line = [b' '; CALL_BYTES + 1];
+    put_columns(code, fields, &mut line);
+    out.extend_from_slice(&line);
+}
+
+/// The lines of a text, each with its line feed; the last may lack it.
+pub fn lines(text: &[u8]) -> impl Iterator<Item = &[u8]> {
+    text.split_inclusive(|&byte| byte == b'\n')
+}
+
+/// A line without its line feed; none where the line feed is missing.
+pub fn whole_line(line: &[u8]) -> Option<&[u8]> {
+    line.strip_suffix(b"\n")
+}
+
+fn read_columns<const N: usize>(line: &[u8], fault: Fault) -> Option<(u64, [u64; N])> {
+    if line.len() != CODE_BYTES + N * FIELD_BYTES {
+        return None;
+    }
+    let (code, columns) = line.split_at(CODE_BYTES);
+    let code = read_number(code, fault)?;
+    let mut fields = [0; N];
+    for (field, column) in fields.iter_mut().zip(columns.chunks_exact(FIELD_BYTES)) {
+        *field = read_number(column, fault)?;
+    }
+    Some((code, fields))
+}
+
+fn read_number(column: &[u8], fault: Fault) -> Option<u64> {
+    let Some(first) = column.iter().position(|&byte| byte != b' ') else {
+        return (fault == Fault::BlankIsZero).then_some(0);
+    };
+    let digits = &column[first..];
+    if digits[0] == b'0' && digits.len() > 1 && fault != Fault::LeadingZeros {
+        return None;
+    }
+    let mut value = 0;
+    for &byte in digits {
+        if !byte.is_ascii_digit() {
+            return None;
+        }
+        value = 10 * value + u64::from(byte - b'0');
+    }
+    Some(value)
+}
+
+/// The call of a code and how many of its numbers are used.
+fn call_of(code: u64, fields: [u64; 5]) -> Option<(Call, usize)> {
+    let [first, second, third, fourth, fifth] = fields;
+    let id = first;
+    let found = match code {
+        1 => {
+            let settings = Settings {
+                line_end: first,
+                safety: second,
+                ceiling: third,
+                traction: fourth,
+            };
+            (Call::Open(settings), 4)
+        }
+        2 => {
+            let entry = Entry {
+                id,
+                head: second,
+                feet: third,
+                class: fourth,
+                start: fifth,
+            };
+            (Call::Enter(entry), 5)
+        }
+        3 => {
+            let (head, speed) = (second, third);
+            (Call::Report { id, head, speed }, 3)
+        }
+        4 => {
+            let (number, length) = (second, third);
+            (Call::Extend { id, number, length }, 3)
+        }
+        5 => (Call::CallBack { id, place: second }, 2),
+        6 => (Call::Hold { id }, 1),
+        7 => (Call::Lift { id }, 1),
+        8 => (Call::TakeOff { id }, 1),
+        _ => return None,
+    };
+    Some(found)
+}
+
+fn columns_of(call: Call) -> (u64, [u64; 5]) {
+    match call {
+        Call::Open(s) => (1, [s.line_end, s.safety, s.ceiling, s.traction, 0]),
+        Call::Enter(e) => (2, [e.id, e.head, e.feet, e.class, e.start]),
+        Call::Report { id, head, speed } => (3, [id, head, speed, 0, 0]),
+        Call::Extend { id, number, length } => (4, [id, number, length, 0, 0]),
+        Call::CallBack { id, place } => (5, [id, place, 0, 0, 0]),
+        Call::Hold { id } => (6, [id, 0, 0, 0, 0]),
+        Call::Lift { id } => (7, [id, 0, 0, 0, 0]),
+        Call::TakeOff { id } => (8, [id, 0, 0, 0, 0]),
+    }
+}
+
+fn put_columns<const N: usize>(code: u64, fields: [u64; N], line: &mut [u8]) {
+    let (code_column, columns) = line.split_at_mut(CODE_BYTES);
+    put_number(code, code_column);
+    for (field, column) in fields
+        .into_iter()
+        .zip(columns.chunks_exact_mut(FIELD_BYTES))
+    {
+        put_number(field, column);
+    }
+    columns[N * FIELD_BYTES] = b'\n';
+}
+
+/// Sets the digits of a value at the right of a column filled with spaces.
+fn put_number(mut value: u64, column: &mut [u8]) {
+    for byte in column.iter_mut().rev() {
+        *byte = b'0' + (value % 10) as u8;
+        value /= 10;
+        if value == 0 {
+            return;
+        }
+    }
+    panic!("a number is wider than its column");
+}
