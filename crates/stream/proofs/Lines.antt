@@ -2,7 +2,7 @@
 use Prim.Native.Nat.{ℕ, zero, suc, _+_, _≤_, _<_}
 use native.Mathlib.Omega.{arith}
 use mathlib.Core.Path.{_≡_, refl, sym, ap, _∙_}
-use mathlib.Core.Bool.{Bool, true, false, cond}
+use mathlib.Core.Bool.{Bool, true, false}
 use mathlib.Core.List.{List, [], _∷_, _++_, append-assoc, append-nil}
 use lib.Dec.{eqb, leb}
 use lib.ListN.{length, take, drop, getD, length-take, take-append-drop}
@@ -10,7 +10,6 @@ use lib.Seq.{take-all, take-take, length-take-le, drop-cons}
 use native.Mathlib.Numerals.{add-one}
 use borrow.Author.Tests.{eq-eqb, ne-eqb, eqb-true, eqb-false, leb-true, leb-false}
 use Rattle.brake.proofs.Tests.{by-test}
-use Rattle.calls.specs.declared.Numbers.{Numbers}
 use Rattle.wire.specs.Format.{lineRead}
 use Rattle.wire.specs.declared.LineRead.{LineRead}
 use Rattle.stream.specs.declared.Session.{Session}

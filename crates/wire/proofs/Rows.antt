@@ -2,13 +2,12 @@
 use Prim.Native.Nat.{ℕ, zero, suc, _+_, _-_, _*_, _<_}
 use native.Mathlib.Numerals.{add-one}
 use native.Mathlib.Omega.{arith}
-use mathlib.Core.Path.{_≡_, refl, sym, ap, _∙_}
+use mathlib.Core.Path.{_≡_, refl, sym, ap}
 use mathlib.Core.Option.{Option, none, some, Option·map}
 use mathlib.Core.List.{List, [], _∷_, _++_, append-assoc}
 use lib.ListN.{length, take, drop, getD, set, getD-replicate}
 use lib.Seq.{drop-cons, drop-drop, take-suc-set}
-use Rattle.wire.specs.declared.Field.{Field}
-use Rattle.wire.specs.declared.Field.the-variants.{Number, NoNumber}
+use Rattle.wire.specs.declared.Field.the-variants.{Number}
 use Rattle.wire.specs.Format.{callColumns, fieldOf, withNumber, numbersIn}
 
 -- every field but the code has 14 columns

@@ -5,7 +5,6 @@ use mathlib.Core.Option.{Option, none, some}
 use mathlib.Core.List.{List, [], _∷_, _++_}
 use lib.Dec.{eqb, leb}
 use lib.ListN.{length, take, drop, getD, replicate}
-use Rattle.train.specs.declared.Settings.{Settings}
 use Rattle.calls.specs.declared.Numbers.{Numbers}
 use Rattle.calls.specs.declared.CallRead.{CallRead}
 use Rattle.calls.specs.declared.CallRead.the-variants.{Read}
