@@ -20,7 +20,7 @@ use Rattle.wire.specs.declared.LineRead.{LineRead}
 use Rattle.wire.specs.declared.LineRead.the-variants.{Opening, Calling, Unreadable}
 use Rattle.wire.specs.Format.{lineRead}
 use Rattle.stream.specs.declared.Session.{Session}
-use Rattle.stream.specs.Session.{session, closed, opening, replyTo, answered}
+use Rattle.stream.specs.Session.{session, closed, openReply, replyTo, answered}
 use Rattle.stream.specs.Input.{after}
 use Rattle.stream.specs.Demand3.{callRead, callsIn, eventRead, eventsIn, Opened}
 
@@ -73,9 +73,9 @@ module _ (l : List ℕ) (ls : List (List ℕ)) where
       })
 
   module _ (σ : Settings) (read : lineRead l ≡ Opening σ) where
-    opening-leaves : (o : Outcome) → openStep σ ≡ o → answered closed l .session ≡ opening closed o .session
+    opening-leaves : (o : Outcome) → openStep σ ≡ o → answered closed l .session ≡ openReply closed o .session
     unfolding replyTo
-    opening-leaves o e = leaves (Opening σ) read ∙ ap (λ (u : Outcome). opening closed u .session) e
+    opening-leaves o e = leaves (Opening σ) read ∙ ap (λ (u : Outcome). openReply closed u .session) e
 
     safe-opened : settingsInRange σ ≡ true → Opened (l ∷ ls)
     unfolding after

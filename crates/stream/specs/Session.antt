@@ -30,17 +30,18 @@ abbrev pub turnedDown : ℕ → Session → Reply
 turnedDown n s = reply (numbers n 0 0 0) s
 
 -- answer 0 is acceptance: then the table of the opening is the session's
-abbrev pub opening : Session → Outcome → Reply
-opening s o = reply (numbersOf (o .answer)) (cond (eqb (numbersOf (o .answer) .number) 0) (session true (o .table)) s)
+abbrev pub openReply : Session → Outcome → Reply
+openReply s o = reply (numbersOf (o .answer)) (cond (eqb (numbersOf (o .answer) .number) 0) (session true (o .table)) s)
 
-abbrev pub calling : Outcome → Reply
-calling o = reply (numbersOf (o .answer)) (session true (o .table))
+-- a call on the table: what `step` gives
+abbrev pub callReply : Outcome → Reply
+callReply o = reply (numbersOf (o .answer)) (session true (o .table))
 
 -- 1 line unreadable; 2 call before an accepted opening, or an opening after one; then the call's own answer
 unfoldable pub replyTo : Session → LineRead → Reply
 replyTo s Unreadable = turnedDown 1 s
-replyTo s (Opening σ) = cond (s .opened) (turnedDown 2 s) (opening s (openStep σ))
-replyTo s (Calling c) = cond (s .opened) (calling (step (s .table) c)) (turnedDown 2 s)
+replyTo s (Opening σ) = cond (s .opened) (turnedDown 2 s) (openReply s (openStep σ))
+replyTo s (Calling c) = cond (s .opened) (callReply (step (s .table) c)) (turnedDown 2 s)
 
 -- the answer to a line without its line feed
 abbrev pub answered : Session → List ℕ → Reply

@@ -77,7 +77,7 @@ unfoldable pub numbersIn : List ℕ → List ℕ → Option (List ℕ)
 numbersIn [] line = some []
 numbersIn (w ∷ ws) line = withNumber (fieldOf (take w line)) (numbersIn ws (drop w line))
 
--- the code's row of numbers
+-- a row of the code, taken for such numbers
 abbrev pub rowNumbers : Row → Option (List ℕ)
 rowNumbers r = cond (r .readable) (some (r .numbers)) none
 

@@ -6,7 +6,7 @@ use borrow.Author.Tests.{not-true, not-false}
 use mathlib.Core.Path.{ap, _∙_}
 use mathlib.Core.Bool.{true}
 use Rattle.calls.specs.declared.Numbers.{Numbers}
-use Rattle.stream.specs.Session.{session, reply, calling, replyTo}
+use Rattle.stream.specs.Session.{session, reply, callReply, replyTo}
 use Rattle.stream.proofs.answer_call.Statement.{statement}
 use Rattle.stream.proofs.answer_call.Tie as tie
 
@@ -29,7 +29,7 @@ returns-2 c =
     let o = c .before .before in
     let s = o .before .before .before .args .s in
     simp (not-false (s .opened) (o .before .if1 .left))
-    (ap (λ (n : Numbers). reply n (session true (o .apply .result .table))) (c .numbers-of .ensures) ∙ ap calling (o .apply .ensures))
+    (ap (λ (n : Numbers). reply n (session true (o .apply .result .table))) (c .numbers-of .ensures) ∙ ap callReply (o .apply .ensures))
 
 pub answer-call-spec : {M : Type 1} → statement M
 answer-call-spec =

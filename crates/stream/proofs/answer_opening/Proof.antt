@@ -7,17 +7,17 @@ use Rattle.calls.specs.declared.Numbers.{Numbers}
 use Rattle.calls.specs.Answers.{numbersOf}
 use Rattle.line.specs.declared.Outcome.{Outcome}
 use Rattle.stream.specs.declared.Session.{Session}
-use Rattle.stream.specs.Session.{session, reply, opening, replyTo}
+use Rattle.stream.specs.Session.{session, reply, openReply, replyTo}
 use borrow.Author.Needs.{needs}
 use Rattle.stream.specs.Session.{replyTo}
 use Rattle.stream.proofs.answer_opening.Statement.{statement}
 use Rattle.stream.proofs.answer_opening.Tie as tie
 
 module _ (s : Session) (o : Outcome) (n : Numbers) (e : n ≡ numbersOf (o .answer)) where
-  refused : (n .number ≡ 0 → ⊥) → reply n s ≡ opening s o
+  refused : (n .number ≡ 0 → ⊥) → reply n s ≡ openReply s o
   refused h = rw (← e) (simp (ne-eqb (n .number) 0 h))
 
-  accepted : n .number ≡ 0 → reply n (session true (o .table)) ≡ opening s o
+  accepted : n .number ≡ 0 → reply n (session true (o .table)) ≡ openReply s o
   accepted h = rw (← e) (simp (eq-eqb (n .number) 0 h))
 
 turn-down-requires : tie.Need-turn-down-requires
@@ -40,7 +40,7 @@ returns-2 c =
     let o = n .before .before in
     simp (o .before .if1 .left)
     (refused (o .before .before .args .s) (o .«open» .result) (n .numbers-of .result) (n .numbers-of .ensures) (c .if2 .taken)
-    ∙ ap (opening (o .before .before .args .s)) (o .«open» .ensures))
+    ∙ ap (openReply (o .before .before .args .s)) (o .«open» .ensures))
 
 returns-3 : tie.Need-returns-3
 unfolding replyTo
@@ -49,7 +49,7 @@ returns-3 c =
     let o = n .before .before in
     simp (o .before .if1 .left)
     (accepted (o .before .before .args .s) (o .«open» .result) (n .numbers-of .result) (n .numbers-of .ensures) (c .if2 .left)
-    ∙ ap (opening (o .before .before .args .s)) (o .«open» .ensures))
+    ∙ ap (openReply (o .before .before .args .s)) (o .«open» .ensures))
 
 pub answer-opening-spec : {M : Type 1} → statement M
 answer-opening-spec =
