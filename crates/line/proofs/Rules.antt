@@ -1,7 +1,7 @@
 -- What document 01 and demand 2 say of the calls, in their words.
 -- Assumes nothing.
 use Prim.Native.Nat.{ℕ, zero, suc, _+_}
-use mathlib.Core.Bool.{Bool, true, false, not}
+use mathlib.Core.Bool.{Bool, true, false}
 use mathlib.Core.List.{List, [], _∷_}
 use mathlib.Core.Logic.{_⊎_, inl, inr, _↔_, by-cases}
 use mathlib.Core.Option.{Option, none, some}
@@ -21,7 +21,7 @@ use Rattle.motion.specs.declared.Motion.{Motion}
 use Rattle.motion.specs.declared.Order.{Order}
 use Rattle.motion.specs.declared.Order.the-variants.{Drive, Brake}
 use Rattle.motion.specs.Orders.{capFits, orderFor}
-use Rattle.motion.proofs.Greatest.{IsGreatest, Chosen, greatest-chosen, greatest-only}
+use Rattle.motion.proofs.Greatest.{IsGreatest, Chosen, greatest-chosen, none-passes}
 use Rattle.motion.proofs.Orders.{MayOrder, fits-below, ordered-cap}
 use Rattle.train.specs.declared.Train.{Train}
 use Rattle.table.specs.declared.Table.{Table}
@@ -42,7 +42,7 @@ use Rattle.train.specs.Acts.{withinLimit, authorised, isOld}
 use Rattle.calls.specs.Answers.{numbers, numbersOf}
 use Rattle.train.specs.Checks.{firstOf, actChecks}
 use Rattle.line.specs.Checks.{enterChecks, takeOffChecks}
-use Rattle.line.specs.Step.{outcome, judged, refused, enterStep, actAnswer, actStep, ownStep, takeOffStep, step}
+use Rattle.line.specs.Step.{outcome, judged, enterStep, actAnswer, actStep, ownStep, takeOffStep, step}
 use Rattle.table.proofs.Places.{found-among}
 use Rattle.train.proofs.Records.{computable-bounded, report-passed, held-brakes, free-order, may-order}
 use Rattle.line.proofs.Steps.{own-unknown, report-refused, report-taken, extend-bad, extend-old, extend-other, extend-repeat, extend-beyond, extend-new}
@@ -152,9 +152,7 @@ module _ (t : Table) (id i : ℕ) (x : Train) (found : findOf t id ≡ At i) (he
 
     none-fits : fits 0 ≡ false → orderFor (x .figures) (t .settings .limits) (goalOf x) after ≡ Brake
     unfolding orderFor
-    none-fits e =
-        greatest-only fits (t .settings .limits .traction) Brake
-        (λ d within. by-test (fits d) (λ q. absurd (not-both (fits-below _ _ _ _ 0 d sound (omega arith) q) e)) (λ q. q))
+    none-fits e = none-passes fits (λ c d le q. fits-below _ _ _ _ c d sound le q) (t .settings .limits .traction) e
 
     -- brake is ordered exactly when the train is held or not even cap 0 fits
     pub brake-exactly : (o ≡ Brake) ↔ ((x .held ≡ true) ⊎ (fits 0 ≡ false))

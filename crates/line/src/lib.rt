@@ -106,11 +106,11 @@ pub fn report(t: Table, id: u64, head: u64, speed: u64) -> Outcome
     if !train::report_allowed(s, x, head, speed) {
         return refuse(t, Refusal::NotAllowed);
     }
-    let y = train::report_on(s, x, head, speed);
+    let after = train::report_on(s, x, head, speed);
+    let y = after.train;
     let o = y.order;
-    let reach = train::reach_of(y);
     Outcome {
-        answer: Answer::Ordered(o, reach),
+        answer: Answer::Ordered(o, after.reach),
         table: table::with_train(t, i, y),
     }
 }

@@ -1,16 +1,18 @@
 -- Laws of one cycle.
 -- Assumes nothing.
-use Prim.Native.Nat.{ℕ, _-_, _*_, _≤_, _<_}
-use mathlib.Core.Bool.{true}
+use Prim.Native.Nat.{ℕ, _+_, _-_, _*_, _≤_, _<_}
+use mathlib.Core.Bool.{true, false}
 use mathlib.Core.Logic.{by-cases}
-use mathlib.Core.Path.{_≡_, refl}
+use mathlib.Core.Path.{_≡_, refl, sym, _∙_}
 use native.Mathlib.Decide.{decLe}
 use native.Mathlib.Nat.{mul-le-mul, mul-le-mul-left, le-trans}
 use native.Mathlib.Omega.{arith}
-use borrow.Author.Tests.{le-leb, lt-leb, eqb-true, eq-eqb}
+use lib.Dec.{leb}
+use borrow.Author.Tests.{le-leb, lt-leb, eqb-true, eq-eqb, ne-eqb}
 use Rattle.brake.specs.declared.Figures.{Figures}
 use Rattle.brake.specs.Rounding.{ceilDiv}
 use Rattle.brake.proofs.Rounding.{ceil-le, ceil-mono}
+use Rattle.brake.proofs.Tests.{by-test, not-both}
 use Rattle.motion.specs.Motion.{brakeTravel, brakeSpeed, nextLevel, driveTravel, driveSpeed, stands}
 
 -- ---- a braked cycle
@@ -62,6 +64,11 @@ pub drive-speed-mono : (k : Figures) {v v′ c c′ : ℕ} → v ≤ v′ → c 
 unfolding driveSpeed
 drive-speed-mono k h g = omega arith
 
+-- each unit of the cap adds one
+pub drive-speed-gain : (k : Figures) (v c : ℕ) → driveSpeed k v c ≡ driveSpeed k v 0 + c
+unfolding driveSpeed
+drive-speed-gain k v c = omega arith
+
 -- ---- standing
 
 -- without speed, under full brake, a train stands
@@ -86,3 +93,15 @@ travel-stands k v b e =
 pub stays : (k : Figures) (v b : ℕ) → stands k v b ≡ true → stands k (brakeSpeed k v b) (nextLevel k b) ≡ true
 unfolding stands brakeSpeed
 stays k v b e = let z = eqb-true v 0 e in eq-eqb (v - b) 0 (omega arith)
+
+-- so a train that moves after a braked cycle moved before it
+pub moved-before : (k : Figures) (v b : ℕ) → stands k (brakeSpeed k v b) (nextLevel k b) ≡ false → stands k v b ≡ false
+moved-before k v b e = by-test (stands k v b) (λ t. absurd (not-both (stays k v b t) e)) (λ f. f)
+
+-- it stands after the cycle that takes off all its speed
+pub last-stands : (k : Figures) (v b : ℕ) → stands k (brakeSpeed k v b) (nextLevel k b) ≡ leb v b
+unfolding stands brakeSpeed
+last-stands k v b =
+    by-cases (decLe v b)
+    (λ last. eq-eqb (v - b) 0 (omega arith) ∙ sym (le-leb v b last))
+    (λ on. ne-eqb (v - b) 0 (omega arith) ∙ sym (lt-leb v b (omega arith)))

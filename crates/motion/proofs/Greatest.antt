@@ -5,7 +5,7 @@ use mathlib.Core.Bool.{Bool, true, false}
 use mathlib.Core.Logic.{by-cases}
 use mathlib.Core.Path.{_≡_, refl, sym, _∙_, ap, subst}
 use native.Mathlib.Decide.{decLe, decLt}
-use native.Mathlib.Nat.{le-refl}
+use native.Mathlib.Nat.{le-refl, le-trans}
 use native.Mathlib.Omega.{arith}
 use Rattle.brake.proofs.Tests.{by-test, not-both}
 use Rattle.motion.specs.declared.Order.{Order}
@@ -25,7 +25,7 @@ Chosen passes n (Drive c) = IsGreatest passes n c
 Chosen passes n Brake = (d : ℕ) → d ≤ n → passes d ≡ false
 
 module _ (passes : ℕ → Bool) where
-  greatest-here : (n : ℕ) → passes n ≡ true → greatest passes n ≡ Drive n
+  pub greatest-here : (n : ℕ) → passes n ≡ true → greatest passes n ≡ Drive n
   unfolding greatest
   greatest-here zero e = rw (e, greatest)
   greatest-here (suc n) e = rw (e, greatest)
@@ -77,6 +77,23 @@ module _ (passes : ℕ → Bool) where
   pub greatest-only : (n : ℕ) (o : Order) → Chosen passes n o → greatest passes n ≡ o
   greatest-only n o h = chosen-once n (greatest passes n) o (greatest-chosen n) h
 
+-- two tests that agree up to n, where the first passes none from there up to n′: the greatest is the same
+module _ (passes passes′ : ℕ → Bool) (n n′ : ℕ) (le : n ≤ n′) where
+  chosen-agree : (o : Order) → ((d : ℕ) → d ≤ n → passes d ≡ passes′ d) → ((d : ℕ) → n < d → d ≤ n′ → passes d ≡ false)
+      → Chosen passes′ n o → Chosen passes n′ o
+  chosen-agree (Drive c) same none g =
+      record {
+        within = le-trans (g .within) le;
+        itself = same c (g .within) ∙ g .itself;
+        above = λ d p q. by-cases (decLe d n) (λ h. same d h ∙ g .above d p h) (λ h. none d (omega arith) q);
+      }
+  chosen-agree Brake same none g = λ d q. by-cases (decLe d n) (λ h. same d h ∙ g d h) (λ h. none d (omega arith) q)
+
+  pub greatest-agree : ((d : ℕ) → d ≤ n → passes d ≡ passes′ d) → ((d : ℕ) → n < d → d ≤ n′ → passes d ≡ false)
+      → greatest passes n′ ≡ greatest passes′ n
+  greatest-agree same none =
+      greatest-only passes n′ (greatest passes′ n) (chosen-agree (greatest passes′ n) same none (greatest-chosen passes′ n))
+
 -- ---- halving
 
 -- every number below low passes, and none from high to n does
@@ -101,10 +118,11 @@ module _ (passes : ℕ → Bool) (closed : (c d : ℕ) → c ≤ d → passes d 
         above = λ d p q. by-test (passes d) (λ t. absurd (not-both (closed mid d p t) f)) (λ f. f);
       }
 
--- where the two meet, the search is over
-pub bracket-none : (passes : ℕ → Bool) (n low high : ℕ) → Bracket passes n low high → high ≤ low → low ≡ 0 → greatest passes n ≡ Brake
-bracket-none passes n low high b h z = greatest-only passes n Brake (λ d q. b .above d (omega arith) q)
+  -- and none passes where 0 does not
+  pub none-passes : passes 0 ≡ false → greatest passes n ≡ Brake
+  none-passes f = greatest-only passes n Brake (λ d q. by-test (passes d) (λ t. absurd (not-both (closed 0 d (omega arith) t) f)) (λ f. f))
 
+-- where the two meet, the search is over
 pub bracket-found : (passes : ℕ → Bool) (n low high : ℕ) → Bracket passes n low high → high ≤ low → 0 < low → greatest passes n ≡ Drive (low - 1)
 bracket-found passes n low high b h some =
     greatest-only passes n (Drive (low - 1))
@@ -134,7 +152,7 @@ unfolding digits digitsWithin
 half-digits m zero h p = absurd (omega arith)
 half-digits m (suc n) h p = let less = digits-mono m n m (suc n / 2) p (le-refl m) (omega arith) in omega arith
 
--- so halving the caps from 0 to A, and none of them, takes 17 trials at most
-pub trials-most : (traction : ℕ) → traction ≤ greatestTraction → digits (traction + 1) ≤ 17
+-- so halving what lies between cap 0 and another cap takes 17 trials at most
+pub trials-most : (high : ℕ) → high ≤ greatestTraction → digits (high - 1) ≤ 17
 unfolding digits digitsWithin
-trials-most traction h = digits-mono (traction + 1) 100001 (traction + 1) 100001 (omega arith) (le-refl _) (le-refl _)
+trials-most high h = digits-mono (high - 1) 99999 (high - 1) 99999 (omega arith) (le-refl _) (le-refl _)

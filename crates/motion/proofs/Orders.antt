@@ -1,6 +1,6 @@
 -- Laws of orders: the cap that fits, and what an accepted report keeps.
 -- Assumes nothing.
-use Prim.Native.Nat.{ℕ, _≤_, _<_}
+use Prim.Native.Nat.{ℕ, _+_, _≤_, _<_}
 use mathlib.Core.Bool.{true, false}
 use mathlib.Core.Logic.{_⊎_, inl, inr}
 use mathlib.Core.Path.{_≡_, refl, sym, _∙_, subst}
@@ -16,14 +16,24 @@ use Rattle.motion.specs.declared.Limits.{Limits}
 use Rattle.motion.specs.declared.Order.{Order}
 use Rattle.motion.specs.declared.Order.the-variants.{Drive, Brake}
 use Rattle.motion.specs.Motion.{driveSpeed, releasedLevel}
-use Rattle.motion.specs.Orders.{orderCap, worstCase, reach, capFits, orderFor}
+use Rattle.motion.specs.Orders.{orderCap, worstCase, reach, capFits, keepsGoal, CapsAllowed, greatest, orderFor}
 use Rattle.motion.specs.Bounds.{greatestLineEnd, greatestCeiling, greatestTraction, Bounded}
-use Rattle.motion.proofs.Cycles.{level-le}
+use Rattle.motion.proofs.Cycles.{level-le, drive-speed-mono}
 use Rattle.motion.proofs.Bounds.{speedBound, bound-ceiling, bound-brake, bound-fits}
 use Rattle.motion.proofs.Domination.{NoWorse, no-worse-drive, no-worse-stop, brake-keeps}
-use Rattle.motion.proofs.Greatest.{IsGreatest, Chosen, greatest-chosen}
+use Rattle.motion.proofs.Greatest.{IsGreatest, Chosen, greatest-chosen, greatest-only, greatest-agree}
 
 -- ---- the cap that fits
+
+-- a greater cap reaches no less far
+pub reach-mono : (k : Figures) (m : Motion) (c d : ℕ) → Sound k → c ≤ d → reach k m (Drive c) ≤ reach k m (Drive d)
+reach-mono k m c d s h =
+    let same : NoWorse m m = record { head = le-refl _; speed = le-refl _; level = refl } in
+    no-worse-stop k _ _ s (no-worse-drive k m m same h)
+
+-- below a cap that keeps the goal every cap keeps it
+pub goal-below : (k : Figures) (goal : ℕ) (m : Motion) (c d : ℕ) → Sound k → c ≤ d → keepsGoal k goal m d ≡ true → keepsGoal k goal m c ≡ true
+goal-below k goal m c d s h e = le-leb _ _ (le-trans (reach-mono k m c d s h) (leb-true _ _ e))
 
 module _ (k : Figures) (l : Limits) (goal : ℕ) (m : Motion) where
   pub fits-keeps : (c : ℕ) → capFits k l goal m c ≡ true → (driveSpeed k (m .speed) c ≤ l .ceiling) × (reach k m (Drive c) ≤ goal)
@@ -44,10 +54,21 @@ module _ (k : Figures) (l : Limits) (goal : ℕ) (m : Motion) where
   pub fits-below : (c d : ℕ) → Sound k → c ≤ d → capFits k l goal m d ≡ true → capFits k l goal m c ≡ true
   fits-below c d s h e =
       let kept = fits-keeps d e in
-      let same : NoWorse m m = record { head = le-refl _; speed = le-refl _; level = refl } in
-      let less = no-worse-drive k m m same h in
-      let stop = no-worse-stop k _ _ s less in
-      fits-under c (le-trans (less .speed) (kept .0)) ∙ le-leb _ _ (le-trans stop (kept .1))
+      fits-under c (le-trans (drive-speed-mono k (le-refl _) h) (kept .0)) ∙ le-leb _ _ (le-trans (reach-mono k m c d s h) (kept .1))
+
+  -- no cap is allowed: brake
+  pub none-allowed : CapsAllowed k l (m .speed) 0 → orderFor k l goal m ≡ Brake
+  unfolding orderFor
+  none-allowed a = greatest-only (capFits k l goal m) (l .traction) Brake (λ d q. fits-over d (a .exceed d (omega arith) q))
+
+  -- some are: the greatest of these that keeps the goal
+  pub some-allowed : (high : ℕ) → CapsAllowed k l (m .speed) (high + 1) → orderFor k l goal m ≡ greatest (keepsGoal k goal m) high
+  unfolding orderFor
+  some-allowed high a =
+      let within = a .within in
+      greatest-agree (capFits k l goal m) (keepsGoal k goal m) high (l .traction) (omega arith)
+      (λ d q. fits-under d (a .keep d (omega arith)))
+      (λ d p q. fits-over d (a .exceed d (omega arith) q))
 
 -- ---- an accepted report
 

@@ -1,12 +1,15 @@
 -- What the code may take for granted, so that no sum overflows 64 bits. Document 01 has the ranges only: the records below
 -- stand in `requires` clauses. Nobody outside passes figures, levels or speeds, and every report keeps these bounds
 -- (proofs/Orders: within-report, within-bounded).
-use Prim.Native.Nat.{ℕ, _+_, _≤_}
+use Prim.Native.Nat.{ℕ, _+_, _≤_, _<_}
 use mathlib.Core.Bool.{Bool, _&&_}
+use mathlib.Core.Path.{_≡_}
 use lib.Dec.{leb}
 use Rattle.brake.specs.declared.Figures.{Figures}
 use Rattle.brake.specs.Consist.{Sound, greatestFull}
 use Rattle.motion.specs.declared.Motion.{Motion}
+use Rattle.motion.specs.declared.Order.the-variants.{Drive}
+use Rattle.motion.specs.Orders.{reach}
 
 -- upper ends of three ranges: line end, speed ceiling V and greatest traction A
 abbrev pub greatestLineEnd : ℕ
@@ -47,7 +50,15 @@ pub record Bounded (k : Figures) (m : Motion) (c : ℕ) : Type 0 where
   pub level : m .level ≤ k .full
   pub cap : c ≤ greatestTraction
 
--- the same as a test, for a record of which nothing is known (proofs/Bounds: bounded, in-bounds)
+-- a search between cap 0, whose reach keeps the goal, and the cap high, whose reach does not
+pub record Halving (k : Figures) (goal : ℕ) (m : Motion) (high least : ℕ) : Type 0 where
+  pub bounded : Bounded k m high
+  pub some : 0 < high
+  pub known : least ≡ reach k m (Drive 0)
+  pub kept : least ≤ goal
+  pub beyond : goal < reach k m (Drive high)
+
+-- the bounds of a train as a test, for a record of which nothing is known (proofs/Bounds: bounds-tested, bounds-hold)
 unfoldable pub inBounds : Figures → Motion → ℕ → Bool
 inBounds k m c =
     leb 1 (k .growth) && leb (k .growth) (k .full) && leb (k .full) greatestFull && leb (m .level) (k .full)

@@ -1,12 +1,13 @@
 -- Document 01, "Orders": what an order o allows a train with figures k and motion m, and which order it gets on a line with
 -- limits l.
-use Prim.Native.Nat.{ℕ, zero, suc, _+_}
+use Prim.Native.Nat.{ℕ, zero, suc, _+_, _≤_, _<_}
 use mathlib.Core.Bool.{Bool, true, false, _&&_}
 use lib.Dec.{leb}
 use Rattle.brake.specs.declared.Figures.{Figures}
 use Rattle.motion.specs.declared.Motion.{Motion}
 use Rattle.motion.specs.declared.Limits.{Limits}
 use Rattle.motion.specs.declared.Order.{Order}
+use Rattle.motion.specs.declared.Offer.{Offer}
 use Rattle.motion.specs.declared.Order.the-variants.{Drive, Brake}
 use Rattle.motion.specs.Motion.{driveTravel, driveSpeed, releasedLevel, brakeTravel, brakeSpeed, nextLevel, stoppingDistance}
 
@@ -34,10 +35,24 @@ stoppingPlace k m = m .head + stoppingDistance k (m .speed) (m .level)
 abbrev pub reach : Figures → Motion → Order → ℕ
 reach k m o = stoppingPlace k (worstCase k m o)
 
+-- an order and its reach
+abbrev pub offer : Figures → Motion → Order → Offer
+offer k m o = record { order = o; reach = reach k m o }
+
 -- cap c may be given: v + c is at most V, and the reach is at most the goal. The goal is the place that orders are worked
 -- out against: the end of authority.
 unfoldable pub capFits : Figures → Limits → ℕ → Motion → ℕ → Bool
 capFits k l goal m c = leb (driveSpeed k (m .speed) c) (l .ceiling) && leb (reach k m (Drive c)) goal
+
+-- its second half: the reach of cap c is at most the goal
+abbrev pub keepsGoal : Figures → ℕ → Motion → ℕ → Bool
+keepsGoal k goal m c = leb (reach k m (Drive c)) goal
+
+-- of the caps from 0 to A, those below n and no others keep v + c at most V
+pub record CapsAllowed (k : Figures) (l : Limits) (v n : ℕ) : Type 0 where
+  pub within : n ≤ l .traction + 1
+  pub keep : (c : ℕ) → c < n → driveSpeed k v c ≤ l .ceiling
+  pub exceed : (c : ℕ) → n ≤ c → c ≤ l .traction → l .ceiling < driveSpeed k v c
 
 -- drive with the greatest cap from 0 to n that passes a test, looked for from n downwards; no such cap: brake
 unfoldable pub greatest : (ℕ → Bool) → ℕ → Order

@@ -1,8 +1,8 @@
 // Worst-case motion and the order of one train: document 01, "Worst-case motion" and "Orders".
 ghost use mathlib.Core.Path.{_≡_};
 ghost use Rattle.motion.specs.Motion.{brakeTravel, brakeSpeed, nextLevel, driveTravel, driveSpeed, stands, stoppingDistance};
-ghost use Rattle.motion.specs.Orders.{orderCap, worstCase, reach, capFits, orderFor};
-ghost use Rattle.motion.specs.Bounds.{Level, Braking, Driving, Bounded, inBounds};
+ghost use Rattle.motion.specs.Orders.{orderCap, worstCase, reach, offer, CapsAllowed, keepsGoal, greatest, orderFor};
+ghost use Rattle.motion.specs.Bounds.{Level, Braking, Driving, Bounded, Halving, inBounds};
 use brake::Figures;
 
 // An order: drive with a cap on the traction, or brake.
@@ -16,6 +16,12 @@ pub struct Motion {
     pub head: u64,
     pub speed: u64,
     pub level: u64,
+}
+
+// An order and its reach.
+pub struct Offer {
+    pub order: Order,
+    pub reach: u64,
 }
 
 // Speed ceiling V and greatest traction A.
@@ -109,7 +115,15 @@ pub fn standing(k: Figures, v: u64, b: u64) -> bool
     v == 0
 }
 
-// Stopping distance (stop travel) from speed v and level b.
+// Whether the braked cycle at speed v and level b is the last: the train stands at its end.
+fn last_cycle(k: Figures, v: u64, b: u64) -> bool
+    ensures { λ r. ⌜ r ≡ stands k (brakeSpeed k v b) (nextLevel k b) ⌝ }
+{
+    v <= b
+}
+
+// Stopping distance (stop travel) from speed v and level b. The last cycle comes after the loop, so that no cycle in it can
+// be the rounded one. From speed 0 the last cycle is the only one, and goes nowhere.
 fn stopping_distance(k: Figures, v: u64, b: u64) -> u64
     requires { ⌜ Braking k v b ⌝ }
     ensures { λ r. ⌜ r ≡ stoppingDistance k v b ⌝ }
@@ -117,12 +131,12 @@ fn stopping_distance(k: Figures, v: u64, b: u64) -> u64
     let mut distance: u64 = 0;
     let mut speed = v;
     let mut level = b;
-    while !standing(k, speed, level) {
+    while !last_cycle(k, speed, level) {
         distance += brake_travel(k, speed, level);
         speed = brake_speed(k, speed, level);
         level = next_level(k, level);
     }
-    distance
+    distance + brake_travel(k, speed, level)
 }
 
 // The worst case of an order: head, speed and level at the end of the coming cycle.
@@ -159,38 +173,85 @@ pub fn reach_of(k: Figures, m: Motion, o: Order) -> u64
     head + stopping_distance(k, v, b)
 }
 
-// Whether cap c keeps the speed ceiling, judged with its own gain, and the goal.
-fn cap_fits(k: Figures, l: Limits, goal: u64, m: Motion, c: u64) -> bool
-    requires { ⌜ Bounded k m c ⌝ }
-    ensures { λ r. ⌜ r ≡ capFits k l goal m c ⌝ }
+// An order with its reach.
+pub fn offer_of(k: Figures, m: Motion, o: Order) -> Offer
+    requires { ⌜ Bounded k m (orderCap o) ⌝ }
+    ensures { λ r. ⌜ r ≡ offer k m o ⌝ }
 {
-    let ceiling = l.ceiling;
-    let v = m.speed;
-    if ceiling < drive_speed(k, v, c) {
-        return false;
+    Offer {
+        order: o,
+        reach: reach_of(k, m, o),
     }
-    reach_of(k, m, Order::Drive(c)) <= goal
 }
 
-// The order of a train that is not held: drive with the greatest cap that fits, or brake where none does.
-// Every cap below a fitting one fits, so halving finds it: the caps below low fit, those from high on do not.
-// Each turn takes a binary digit off high - low: 17 trials at most, at A = 100,000.
-pub fn order_for(k: Figures, l: Limits, goal: u64, m: Motion) -> Order
-    requires { ⌜ Bounded k m (l .traction) ⌝ }
-    ensures { λ r. ⌜ r ≡ orderFor k l goal m ⌝ }
+// How many caps, counted from 0, the engine and the ceiling allow at speed v. Each is judged with its own gain.
+fn caps_allowed(k: Figures, l: Limits, v: u64) -> u64
+    requires { ⌜ Driving k v (l .traction) ⌝ }
+    ensures { λ r. ⌜ CapsAllowed k l v r ⌝ }
 {
-    let mut low: u64 = 0;
-    let mut high = l.traction + 1;
-    while low < high {
-        let mid = low + (high - low) / 2;
-        if cap_fits(k, l, goal, m, mid) {
+    let ceiling = l.ceiling;
+    let traction = l.traction;
+    let least = drive_speed(k, v, 0);
+    if ceiling < least {
+        return 0;
+    }
+    let gain = ceiling - least;
+    if traction < gain {
+        return traction + 1;
+    }
+    gain + 1
+}
+
+// The greatest cap below high that keeps the goal, with its reach: cap 0 does, and its reach is least; the cap high does not.
+// Every cap below one that keeps the goal keeps it too, so halving finds it: the caps below low do, those from top on do not.
+// The reach of the last cap below low is kept, so none is worked out twice.
+// Each turn takes a binary digit off top - low: 17 trials at most, at A = 100,000.
+fn halve(k: Figures, goal: u64, m: Motion, high: u64, least: u64) -> Offer
+    requires { ⌜ Halving k goal m high least ⌝ }
+    ensures { λ r. ⌜ r ≡ offer k m (greatest (keepsGoal k goal m) high) ⌝ }
+{
+    let mut low: u64 = 1;
+    let mut top = high;
+    let mut kept = least;
+    while low < top {
+        let mid = low + (top - low) / 2;
+        let tried = reach_of(k, m, Order::Drive(mid));
+        if tried <= goal {
             low = mid + 1;
+            kept = tried;
         } else {
-            high = mid;
+            top = mid;
         }
     }
-    if low == 0 {
-        return Order::Brake;
+    Offer {
+        order: Order::Drive(low - 1),
+        reach: kept,
     }
-    Order::Drive(low - 1)
+}
+
+// The order of a train that is not held, with its reach: drive with the greatest cap that fits, or brake where none does.
+// The greatest cap allowed is tried first: on free track it fits. Then cap 0, if that is another: where it does not fit, none
+// does. So 19 trials at most, at A = 100,000: these two, and 17 to halve what lies between them.
+pub fn order_for(k: Figures, l: Limits, goal: u64, m: Motion) -> Offer
+    requires { ⌜ Bounded k m (l .traction) ⌝ }
+    ensures { λ r. ⌜ r ≡ offer k m (orderFor k l goal m) ⌝ }
+{
+    let v = m.speed;
+    let allowed = caps_allowed(k, l, v);
+    if allowed == 0 {
+        return offer_of(k, m, Order::Brake);
+    }
+    let most = allowed - 1;
+    let best = offer_of(k, m, Order::Drive(most));
+    if best.reach <= goal {
+        return best;
+    }
+    if most == 0 {
+        return offer_of(k, m, Order::Brake);
+    }
+    let least = reach_of(k, m, Order::Drive(0));
+    if goal < least {
+        return offer_of(k, m, Order::Brake);
+    }
+    halve(k, goal, m, most, least)
 }

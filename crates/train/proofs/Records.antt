@@ -4,20 +4,18 @@ use Prim.Native.Nat.{ℕ, _≤_, _<_}
 use mathlib.Core.Bool.{true, false, _&&_}
 use mathlib.Core.Logic.{inl, inr}
 use mathlib.Core.Path.{_≡_}
-use native.Mathlib.Omega.{arith}
 use lib.Dec.{leb}
 use borrow.Author.Tests.{le-leb, lt-leb}
 use Rattle.brake.proofs.Tests.{by-test, both}
 use Rattle.motion.specs.declared.Motion.{Motion}
-use Rattle.motion.specs.declared.Order.{Order}
-use Rattle.motion.specs.declared.Order.the-variants.{Drive, Brake}
+use Rattle.motion.specs.declared.Order.the-variants.{Brake}
 use Rattle.motion.specs.Orders.{orderCap, orderFor}
 use Rattle.motion.specs.Bounds.{Bounded}
-use Rattle.motion.proofs.Bounds.{bounds-tested, bounds-hold, bounded-cap}
-use Rattle.motion.proofs.Orders.{MayOrder, ordered-cap}
+use Rattle.motion.proofs.Bounds.{bounds-tested}
+use Rattle.motion.proofs.Orders.{MayOrder}
 use Rattle.train.specs.declared.Settings.{Settings}
 use Rattle.train.specs.declared.Train.{Train}
-use Rattle.train.specs.Report.{worstOf, allowed, motionAfter, goalOf, orderAfter, reported, computable, reportAllowed}
+use Rattle.train.specs.Report.{worstOf, allowed, motionAfter, goalOf, orderAfter, computable, reportAllowed}
 
 pub computable-bounded : (x : Train) → computable x ≡ true → Bounded (x .figures) (x .motion) (orderCap (x .order))
 unfolding computable
@@ -64,13 +62,3 @@ free-order σ x m e = rw (e, orderAfter)
 
 pub may-order : (σ : Settings) (x : Train) (m : Motion) → MayOrder (x .figures) (σ .limits) (goalOf x) m (orderAfter σ x m)
 may-order σ x m = by-test (x .held) (λ e. inl (held-brakes σ x m e)) (λ e. inr (free-order σ x m e))
-
-cap-within : (σ : Settings) (x : Train) (m : Motion) (o : Order) → MayOrder (x .figures) (σ .limits) (goalOf x) m o → orderCap o ≤ σ .limits .traction
-cap-within σ x m (Drive c) order = ordered-cap (x .figures) (σ .limits) (goalOf x) m c order .within
-cap-within σ x m Brake order = omega arith
-
--- so the record that it leaves can be worked with
-pub reported-computable : (σ : Settings) (x : Train) (h v : ℕ) → reportAllowed σ x h v ≡ true → computable (reported σ x h v) ≡ true
-unfolding computable reported
-reported-computable σ x h v e =
-    bounds-hold _ _ _ (bounded-cap (report-passed σ x h v e .bounded) (cap-within σ x _ _ (may-order σ x (motionAfter x h v))))

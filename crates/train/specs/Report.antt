@@ -9,6 +9,7 @@ use Rattle.motion.specs.Orders.{orderCap, worstCase, reach, orderFor}
 use Rattle.motion.specs.Bounds.{inBounds}
 use Rattle.train.specs.declared.Settings.{Settings}
 use Rattle.train.specs.declared.Train.{Train}
+use Rattle.train.specs.declared.Reported.{Reported}
 
 -- worst case of a train's last order
 abbrev pub worstOf : Train → Motion
@@ -53,6 +54,10 @@ moved x m o = record {
 -- the record after an accepted report
 unfoldable pub reported : Settings → Train → ℕ → ℕ → Train
 reported σ x h v = moved x (motionAfter x h v) (orderAfter σ x (motionAfter x h v))
+
+-- a record and its reach
+abbrev pub withReach : Train → Reported
+withReach x = record { train = x; reach = reachOf x }
 
 -- The record is one that motion can be worked out from. No list of calls leaves another (safety/proofs/Bounds: always-computable).
 unfoldable pub computable : Train → Bool

@@ -5,13 +5,15 @@ ghost use mathlib.Core.Bool.{true};
 ghost use mathlib.Core.Option.{none, some};
 ghost use Prim.Native.Nat.{_+_, _^_, _<_};
 ghost use lib.Dec.{leb};
+ghost use Rattle.motion.specs.Orders.{offer};
 ghost use Rattle.motion.specs.Bounds.{Bounded};
 ghost use Rattle.train.specs.Ranges.{between, settingsInRange, idInRange, startInRange, requestInRange};
-ghost use Rattle.train.specs.Report.{worstOf, reachOf, allowed, motionAfter, orderAfter, moved, reported, computable, reportAllowed};
+ghost use Rattle.train.specs.Report.{worstOf, reachOf, allowed, motionAfter, orderAfter, moved, reported, withReach, computable, reportAllowed};
 ghost use Rattle.train.specs.Acts.{stepsOf, withinLimit, entering, authorised, isOld, callBackAllowed, marked, mayLeave};
 use brake::Figures;
 use motion::Limits;
 use motion::Motion;
+use motion::Offer;
 use motion::Order;
 
 // Settings of a line: line end, safety distance, and the limits of every train's motion, V and A.
@@ -34,6 +36,12 @@ pub struct Train {
     pub start: u64,
     pub number: u64,
     pub asked: u64,
+}
+
+// A train record and the reach of its order: a report is answered with it.
+pub struct Reported {
+    pub train: Train,
+    pub reach: u64,
 }
 
 // A call that names a train on the line and leaves it there: report (head, speed), extend (number, length), call back
@@ -248,7 +256,7 @@ fn worst_of(x: Train) -> Motion
     motion::worst_case(k, m, o)
 }
 
-// A call back may not come before it, and a report is answered with it.
+// A call back may not come before it.
 pub fn reach_of(x: Train) -> u64
     requires { ⌜ computable x ≡ true ⌝ }
     ensures { λ r. ⌜ r ≡ reachOf x ⌝ }
@@ -306,26 +314,30 @@ pub fn report_allowed(s: Settings, x: Train, head: u64, speed: u64) -> bool
 }
 
 // A hold acts here, at the next report, and not on the order already given.
-fn order_after(s: Settings, x: Train, m: Motion) -> Order
+fn order_after(s: Settings, x: Train, m: Motion) -> Offer
     requires { ⌜ Bounded (x .figures) m (s .limits .traction) ⌝ }
-    ensures { λ r. ⌜ r ≡ orderAfter s x m ⌝ }
+    ensures { λ r. ⌜ r ≡ offer (x .figures) m (orderAfter s x m) ⌝ }
 {
-    if x.held {
-        return Order::Brake;
-    }
     let k = x.figures;
+    if x.held {
+        return motion::offer_of(k, m, Order::Brake);
+    }
     let limits = s.limits;
     motion::order_for(k, limits, x.end, m)
 }
 
-// The record after a report that is allowed.
-pub fn report_on(s: Settings, x: Train, head: u64, speed: u64) -> Train
+// The record after a report that is allowed, and its reach, which the search for the order has found.
+pub fn report_on(s: Settings, x: Train, head: u64, speed: u64) -> Reported
     requires { ⌜ reportAllowed s x head speed ≡ true ⌝ }
-    ensures { λ r. ⌜ r ≡ reported s x head speed ⌝ }
+    ensures { λ r. ⌜ r ≡ withReach (reported s x head speed) ⌝ }
 {
     let m = motion_after(x, head, speed);
-    let o = order_after(s, x, m);
-    with_motion(x, m, o)
+    let given = order_after(s, x, m);
+    let o = given.order;
+    Reported {
+        train: with_motion(x, m, o),
+        reach: given.reach,
+    }
 }
 
 // Judged from the reach, and not from the last head: the order given still counts.

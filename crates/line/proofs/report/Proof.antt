@@ -6,7 +6,6 @@ use borrow.Author.Tests.{not-true, not-false}
 use Rattle.table.specs.declared.Found.the-variants.{At}
 use Rattle.table.specs.Table.{findOf}
 use Rattle.train.specs.Report.{reportAllowed}
-use Rattle.train.proofs.Records.{reported-computable}
 use Rattle.line.proofs.Steps.{own-unknown, report-refused, report-taken}
 use borrow.Author.Needs.{needs}
 use Rattle.line.proofs.report.Statement.{statement}
@@ -55,18 +54,15 @@ passes c = sym (c .before .report-allowed .ensures) ∙ not-false _ (c .if1 .lef
 report-on-requires : tie.Need-report-on-requires
 report-on-requires c κs = passes c
 
-reach-of-requires : tie.Need-reach-of-requires
-reach-of-requires c κs = rw (c .report-on .ensures) (reported-computable _ _ _ _ (passes (c .before)))
-
 with-train-requires : tie.Need-with-train-requires
 with-train-requires c κs = search needs
 
 returns-3 : tie.Need-returns-3
 returns-3 c =
-    let y = c .before .before in
-    let x = y .before .before .before in
-    rw (c .with-train .ensures, c .before .reach-of .ensures, y .report-on .ensures)
-    (sym (report-taken _ _ _ _ (found (x .before .before .before)) (x .train-at .ensures) _ _ (passes (y .before))))
+    let after = c .before .before in
+    let x = after .before .before .before in
+    rw (c .with-train .ensures, after .report-on .ensures)
+    (sym (report-taken _ _ _ _ (found (x .before .before .before)) (x .train-at .ensures) _ _ (passes (after .before))))
 
 pub report-spec : {M : Type 1} → statement M
 report-spec =
@@ -82,6 +78,5 @@ report-spec =
     refuse-requires-2
     returns-2
     report-on-requires
-    reach-of-requires
     with-train-requires
     returns-3)

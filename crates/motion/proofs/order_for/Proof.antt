@@ -1,88 +1,127 @@
--- `motion::order_for` meets its contract: the caps below low fit, those from high on do not, and the two close in.
--- The measure is the number of binary digits of their distance: at most 17 trials (Greatest: trials-most).
+-- `motion::order_for` meets its contract: where the greatest cap allowed keeps the goal it is the order, where cap 0 does not none
+-- is, and otherwise halving finds it.
 -- Assumes nothing.
-use Prim.Native.Nat.{ℕ, _-_, _≤_}
-use mathlib.Core.Bool.{true}
-use mathlib.Core.Path.{_≡_, sym, _∙_}
+use Prim.Native.Nat.{ℕ, _-_, _<_}
+use mathlib.Core.Bool.{false}
+use mathlib.Core.Path.{_≡_, ap, subst, _∙_}
 use native.Mathlib.Omega.{arith}
-use Rattle.motion.specs.Orders.{capFits, orderFor}
+use borrow.Author.Needs.{needs}
+use borrow.Author.Tests.{le-leb, lt-leb}
+use Rattle.motion.specs.declared.Offer.{Offer}
+use Rattle.motion.specs.declared.Order.the-variants.{Drive, Brake}
+use Rattle.motion.specs.Orders.{reach, keepsGoal, CapsAllowed, greatest, orderFor}
 use Rattle.motion.proofs.Bounds.{bounded-cap}
-use Rattle.motion.proofs.Greatest.{Bracket, bracket-up, bracket-down, bracket-none, bracket-found, digits, half-digits}
-use Rattle.motion.proofs.Orders.{fits-below}
+use Rattle.motion.proofs.Greatest.{greatest-here, none-passes}
+use Rattle.motion.proofs.Orders.{goal-below, none-allowed, some-allowed}
 use Rattle.motion.proofs.order_for.Statement.{statement}
 use Rattle.motion.proofs.order_for.Tie as tie
 
-abbrev Inv-loop : tie.InvT-loop
-Inv-loop k l goal m low₀ high₀ low high = Bracket (capFits k l goal m) (l .traction) low high
+caps-allowed-requires : tie.Need-caps-allowed-requires
+caps-allowed-requires c κs = search needs
 
-abbrev μ-loop : tie.MeasureT-loop
-μ-loop k l goal m low₀ high₀ low high = digits (high - low)
+offer-of-requires : tie.Need-offer-of-requires
+offer-of-requires c κs = search needs
 
--- below a cap that fits every cap fits
-closed : (c : tie.Start Inv-loop μ-loop) → let a = c .args in (x y : ℕ) → x ≤ y → capFits (a .k) (a .l) (a .goal) (a .m) y ≡ true → capFits (a .k) (a .l) (a .goal) (a .m) x ≡ true
-closed c x y h e = fits-below _ _ _ _ x y (c .pre .figures) h e
+returns : tie.Need-returns
+returns c =
+    let caps = c .before .before in
+    let a = caps .before .args in
+    let none = subst (CapsAllowed (a .k) (a .l) (a .m .speed)) (c .before .if1 .taken) (caps .caps-allowed .ensures) in
+    rw (c .offer-of .ensures, none-allowed (a .k) (a .l) (a .goal) (a .m) none)
 
-add-high : tie.Need-add-high Inv-loop μ-loop
-add-high c = omega arith
+-- some cap is allowed
+abbrev High : tie.Else1 → ℕ
+High c = c .before .caps-allowed .result - 1
 
-loop-holds : tie.Need-loop-holds Inv-loop μ-loop
-loop-holds c = record { ordered = omega arith; within = omega arith; below = λ d p. absurd (omega arith); above = λ d p q. absurd (omega arith) }
+order : (c : tie.Else1) → let a = c .before .before .args in orderFor (a .k) (a .l) (a .goal) (a .m) ≡ greatest (keepsGoal (a .k) (a .goal) (a .m)) (High c)
+order c =
+    let a = c .before .before .args in
+    let caps = c .before .caps-allowed in
+    some-allowed _ _ _ _ (High c) (subst (CapsAllowed (a .k) (a .l) (a .m .speed)) (omega arith) (caps .ensures))
 
-sub-mid : tie.Need-sub-mid Inv-loop μ-loop
-sub-mid c = omega arith
+-- where cap 0 does not keep the goal, none does
+brakes : (c : tie.Else1) → let a = c .before .before .args in keepsGoal (a .k) (a .goal) (a .m) 0 ≡ false → orderFor (a .k) (a .l) (a .goal) (a .m) ≡ Brake
+brakes c f =
+    let start = c .before .before in
+    let a = start .args in
+    order c ∙ none-passes (keepsGoal (a .k) (a .goal) (a .m)) (λ x y h e. goal-below (a .k) (a .goal) (a .m) x y (start .pre .figures) h e) (High c) f
 
-add-mid : tie.Need-add-mid Inv-loop μ-loop
-add-mid c = omega arith
+sub-most : tie.Need-sub-most
+sub-most c = search needs
 
-cap-fits-requires : tie.Need-cap-fits-requires Inv-loop μ-loop
-cap-fits-requires c κs = bounded-cap (c .before .before .before .pre) (omega arith)
+offer-of-requires-2 : tie.Need-offer-of-requires-2
+offer-of-requires-2 c κs = bounded-cap (c .before .before .pre) (omega (arith, c .before .caps-allowed .ensures .within))
 
-add-low : tie.Need-add-low Inv-loop μ-loop
-add-low c = omega arith
+-- the reach of the greatest one
+reached : (c : tie.After-offer-of2) → let a = c .before .before .before .args in c .offer-of2 .result .reach ≡ reach (a .k) (a .m) (Drive (High (c .before)))
+reached c = ap (λ (o : Offer). o .reach) (c .offer-of2 .ensures)
 
-loop-less : tie.Need-loop-less Inv-loop μ-loop
-loop-less c = half-digits _ _ (omega arith) (omega arith)
+returns-2 : tie.Need-returns-2
+returns-2 c =
+    let best = c .before .before in
+    let a = best .before .before .before .args in
+    let high = High (best .before) in
+    let kept = le-leb (reach (a .k) (a .m) (Drive high)) (a .goal) (omega (arith, reached best, c .if2 .taken)) in
+    rw (best .offer-of2 .ensures, order (best .before), greatest-here (keepsGoal (a .k) (a .goal) (a .m)) high kept)
 
-loop-again : tie.Need-loop-again Inv-loop μ-loop
-loop-again c =
-    bracket-up _ (closed (c .before .before .before .before .before)) _ _ _ _ (c .before .before .before .loop .inv) (omega arith)
-    (sym (c .before .cap-fits .ensures) ∙ c .if1 .taken)
+-- it lies beyond the goal
+beyond : (c : tie.Else2) → let best = c .before .before in let a = best .before .before .before .args in a .goal < reach (a .k) (a .m) (Drive (High (best .before)))
+beyond c = omega (arith, reached (c .before .before), c .if2 .left)
 
-loop-less-2 : tie.Need-loop-less-2 Inv-loop μ-loop
-loop-less-2 c = half-digits _ _ (omega arith) (omega arith)
+offer-of-requires-3 : tie.Need-offer-of-requires-3
+offer-of-requires-3 c κs = search needs
 
-loop-again-2 : tie.Need-loop-again-2 Inv-loop μ-loop
-loop-again-2 c =
-    bracket-down _ (closed (c .before .before .before .before .before)) _ _ _ _ (c .before .before .before .loop .inv) (omega arith) (omega arith)
-    (sym (c .before .cap-fits .ensures) ∙ c .if1 .left)
+returns-3 : tie.Need-returns-3
+returns-3 c =
+    let some = c .before .before .before .before .before in
+    let a = some .before .before .args in
+    let over = subst (λ (d : ℕ). a .goal < reach (a .k) (a .m) (Drive d)) (c .before .if3 .taken) (beyond (c .before .before)) in
+    rw (c .offer-of3 .ensures, brakes some (lt-leb (reach (a .k) (a .m) (Drive 0)) (a .goal) over))
 
-returns : tie.Need-returns Inv-loop μ-loop
-unfolding orderFor
-returns c = sym (bracket-none _ _ _ _ (c .before .before .loop .inv) (c .before .loop-test .left) (c .if2 .taken))
+reach-of-requires : tie.Need-reach-of-requires
+reach-of-requires c κs = search needs
 
-sub-t13 : tie.Need-sub-t13 Inv-loop μ-loop
-sub-t13 c = omega arith
+offer-of-requires-4 : tie.Need-offer-of-requires-4
+offer-of-requires-4 c κs = search needs
 
-returns-2 : tie.Need-returns-2 Inv-loop μ-loop
-unfolding orderFor
-returns-2 c = sym (bracket-found _ _ _ _ (c .before .before .loop .inv) (c .before .loop-test .left) (omega arith))
+returns-4 : tie.Need-returns-4
+returns-4 c =
+    let least = c .before .before in
+    let some = least .before .before .before .before .before in
+    let a = some .before .before .args in
+    let over = lt-leb (reach (a .k) (a .m) (Drive 0)) (a .goal) (omega (arith, least .reach-of .ensures, c .before .if4 .taken)) in
+    rw (c .offer-of4 .ensures, brakes some over)
+
+halve-requires : tie.Need-halve-requires
+halve-requires c κs =
+    let some = c .before .before .before .before .before .before in
+    record {
+      bounded = bounded-cap (some .before .before .pre) (omega (arith, some .before .caps-allowed .ensures .within));
+      some = omega (arith, c .before .before .if3 .left);
+      known = c .before .reach-of .ensures;
+      kept = c .if4 .left;
+      beyond = beyond (c .before .before .before);
+    }
+
+returns-5 : tie.Need-returns-5
+returns-5 c =
+    let some = c .before .before .before .before .before .before .before in
+    rw (order some) (c .halve .ensures)
 
 pub order-for-spec : {M : Type 1} → statement M
 order-for-spec =
     tie.close
     (tie.spec
-    Inv-loop
-    μ-loop
-    add-high
-    loop-holds
-    sub-mid
-    add-mid
-    cap-fits-requires
-    add-low
-    loop-less
-    loop-again
-    loop-less-2
-    loop-again-2
+    caps-allowed-requires
+    offer-of-requires
     returns
-    sub-t13
-    returns-2)
+    sub-most
+    offer-of-requires-2
+    returns-2
+    offer-of-requires-3
+    returns-3
+    reach-of-requires
+    offer-of-requires-4
+    returns-4
+    halve-requires
+    returns-5)

@@ -7,9 +7,10 @@ use native.Mathlib.Omega.{arith}
 use borrow.Author.Needs.{needs}
 use borrow.Author.Tests.{not-true, not-false}
 use Rattle.brake.specs.declared.Figures.{Figures}
-use Rattle.motion.specs.Motion.{stands, enoughCycles, stoppingDistance}
+use Rattle.motion.specs.Motion.{brakeTravel, stands, enoughCycles, stoppingDistance}
 use Rattle.motion.specs.Bounds.{Braking}
-use Rattle.motion.proofs.Runs.{fewer, stop-stands, stop-moves}
+use Rattle.motion.proofs.Cycles.{moved-before}
+use Rattle.motion.proofs.Runs.{fewer, stop-stands, stop-cycle}
 use Rattle.motion.proofs.Bounds.{braking-on, stop-fits}
 use Rattle.motion.proofs.stopping_distance.Statement.{statement}
 use Rattle.motion.proofs.stopping_distance.Tie as tie
@@ -27,8 +28,8 @@ abbrev μ-loop : tie.MeasureT-loop
 loop-holds : tie.Need-loop-holds Inv-loop μ-loop
 loop-holds c = record { left = omega arith; braking = c .pre }
 
-standing-requires : tie.Need-standing-requires Inv-loop μ-loop
-standing-requires c κs = search needs
+last-cycle-requires : tie.Need-last-cycle-requires Inv-loop μ-loop
+last-cycle-requires c κs = search needs
 
 -- in the loop's body
 abbrev K : tie.Then1 Inv-loop μ-loop → Figures
@@ -44,7 +45,7 @@ braked : (c : tie.Then1 Inv-loop μ-loop) → Braking (K c) (S c) (L c)
 braked c = c .before .before .loop .inv .braking
 
 moves : (c : tie.Then1 Inv-loop μ-loop) → stands (K c) (S c) (L c) ≡ false
-moves c = sym (c .before .standing .ensures) ∙ not-true _ (c .if1 .taken)
+moves c = moved-before _ _ _ (sym (c .before .last-cycle .ensures) ∙ not-true _ (c .if1 .taken))
 
 brake-travel-requires : tie.Need-brake-travel-requires Inv-loop μ-loop
 brake-travel-requires c κs = braked c
@@ -53,7 +54,7 @@ add-distance : tie.Need-add-distance Inv-loop μ-loop
 add-distance c =
     let t = c .before in
     let start = t .before .before .before in
-    let moved = stop-moves (K t) (S t) (L t) (braked t .figures) (moves t) in
+    let cycle = stop-cycle (K t) (S t) (L t) (braked t .figures) in
     let fits = stop-fits (K t) (start .args .v) (start .args .b) (start .pre) in
     omega (arith, c .brake-travel .ensures, t .before .before .loop .inv .left)
 
@@ -72,13 +73,31 @@ loop-again : tie.Need-loop-again Inv-loop μ-loop
 loop-again c =
     let t = c .before .before .before in
     rw (c .before .brake-speed .ensures, c .next-level .ensures, c .before .before .brake-travel .ensures)
-    (let moved = stop-moves (K t) (S t) (L t) (braked t .figures) (moves t) in
+    (let cycle = stop-cycle (K t) (S t) (L t) (braked t .figures) in
     record { left = omega (arith, t .before .before .loop .inv .left); braking = braking-on _ _ _ (braked t) })
 
+-- after the loop comes the last cycle
+brake-travel-requires-2 : tie.Need-brake-travel-requires-2 Inv-loop μ-loop
+brake-travel-requires-2 c κs = c .before .before .loop .inv .braking
+
+-- with it all is summed up
+last : (c : tie.Else1 Inv-loop μ-loop) → let a = c .before .before .before .args in let l = c .before .before .loop in
+    l .distance + brakeTravel (a .k) (l .speed) (l .level) ≡ stoppingDistance (a .k) (a .v) (a .b)
+last c =
+    let l = c .before .before .loop in
+    let k = c .before .before .before .args .k in
+    let cycle = stop-cycle k (l .speed) (l .level) (l .inv .braking .figures) in
+    let stopped = stop-stands _ _ _ (sym (c .before .last-cycle .ensures) ∙ not-false _ (c .if1 .left)) in
+    omega (arith, l .inv .left)
+
+add-result : tie.Need-add-result Inv-loop μ-loop
+add-result c =
+    let start = c .before .before .before .before in
+    let fits = stop-fits (start .args .k) (start .args .v) (start .args .b) (start .pre) in
+    omega (arith, c .brake-travel2 .ensures, last (c .before))
+
 returns : tie.Need-returns Inv-loop μ-loop
-returns c =
-    let stopped = stop-stands _ _ _ (sym (c .before .standing .ensures) ∙ not-false _ (c .if1 .left)) in
-    omega (arith, c .before .before .loop .inv .left)
+returns c = rw (c .brake-travel2 .ensures) (last (c .before))
 
 pub stopping-distance-spec : {M : Type 1} → statement M
 stopping-distance-spec =
@@ -87,11 +106,13 @@ stopping-distance-spec =
     Inv-loop
     μ-loop
     loop-holds
-    standing-requires
+    last-cycle-requires
     brake-travel-requires
     add-distance
     brake-speed-requires
     next-level-requires
     loop-less
     loop-again
+    brake-travel-requires-2
+    add-result
     returns)

@@ -1,6 +1,5 @@
 -- `train::report_on` meets its contract.
 -- Assumes nothing.
-use mathlib.Core.Path.{_∙_}
 use Rattle.train.specs.Report.{reported}
 use Rattle.train.proofs.Records.{report-passed}
 use borrow.Author.Needs.{needs}
@@ -18,7 +17,7 @@ with-motion-requires c κs = search needs
 
 returns : tie.Need-returns
 unfolding reported
-returns c = c .with-motion .ensures ∙ (rw (c .before .order-after .ensures, c .before .before .motion-after .ensures))
+returns c = rw (c .with-motion .ensures, c .before .order-after .ensures, c .before .before .motion-after .ensures)
 
 pub report-on-spec : {M : Type 1} → statement M
 report-on-spec =
