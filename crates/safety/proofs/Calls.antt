@@ -109,7 +109,7 @@ module _ (σ : Settings) (es : List Event) (t : Table) (T : Told σ es t) where
       let now = stays-kept es (TakeOff id) Done (done-accepted _) (unfold stayFrom in refl) in
       record {
         settings = T .settings;
-        sized = sized-without-first t (T .sized);
+        sized = sized-without-first t (T .sized) (let below = found-below t id i f in omega arith);
         trains = rw (line-without-first t (T .sized), T .trains, now) (sym same);
         lined = rw now lined;
       }

@@ -1,15 +1,16 @@
 -- Laws of the places of a table: where a train is found, and how the others move up.
 -- Assumes nothing.
-use Prim.Native.Nat.{ℕ, zero, suc, _+_, _≤_, _<_}
+use Prim.Native.Nat.{ℕ, suc, min, _+_, _-_, _≤_, _<_}
 use mathlib.Core.Bool.{false}
-use mathlib.Core.List.{List, [], _∷_, _++_, append-nil, map}
-use mathlib.Core.Logic.{_⊎_, ⊎-elim}
+use mathlib.Core.List.{List, [], _∷_, _++_, map}
+use mathlib.Core.Logic.{_⊎_, ⊎-elim, by-cases}
+use native.Mathlib.Decide.{decLe}
 use mathlib.Core.Path.{_≡_, refl, sym, ap, _∙_}
 use native.Mathlib.Numerals.{add-one}
 use native.Mathlib.Omega.{arith}
 use lib.Dec.{eqb}
-use lib.ListN.{length, take, drop, getD, set, length-take, length-drop, length-append, length-map, drop-of-length-le, List·getD-eq-default}
-use lib.Seq.{drop-cons, getD-take, take-suc, take-all, set-at, append-snoc, length-take-le}
+use lib.ListN.{length, take, drop, getD, set, length-take, length-drop, length-map, drop-of-length-le}
+use lib.Seq.{drop-cons, getD-take, getD-drop, take-nil, take-suc, take-all, set-at, append-snoc, length-take-le}
 use borrow.Author.Tests.{eq-eqb, ne-eqb}
 use Rattle.brake.proofs.Tests.{by-test}
 use Rattle.train.specs.declared.Train.{Train}
@@ -84,40 +85,43 @@ not-found Nothing e = refl
 
 -- ---- moving up
 
--- the records behind the first, and a blank one in the last place
-abbrev pub up : List Train → List Train
-up l = drop 1 l ++ (blankTrain ∷ [])
-
 -- the first i records moved up, and the rest as they were
 abbrev pub upTo : List Train → ℕ → List Train
-upTo l i = take i (up l) ++ drop i l
+upTo l i = take i (drop 1 l) ++ drop i l
 
-blank-last : (l : List Train) (i : ℕ) → getD (l ++ (blankTrain ∷ [])) i blankTrain ≡ getD l i blankTrain
-blank-last [] zero = refl
-blank-last [] (suc i) = refl
-blank-last (x ∷ l) zero = refl
-blank-last (x ∷ l) (suc i) = blank-last l i
-
-up-at : (l : List Train) (i : ℕ) → getD (up l) i blankTrain ≡ getD l (i + 1) blankTrain
-up-at [] i = blank-last [] i
-up-at (x ∷ l) i = rw add-one (blank-last l i)
+drop-take : (k : ℕ) (l : List Train) → drop 1 (take (suc k) l) ≡ take k (drop 1 l)
+drop-take k [] = sym (take-nil k)
+drop-take k (x ∷ l) = refl
 
 module _ (l : List Train) (size : length l ≡ 32) where
-  up-long : length (up l) ≡ 32
-  up-long = simp (length-append, length-drop) (omega arith)
+  behind-long : length (drop 1 l) ≡ 31
+  behind-long = simp (length-drop) (omega arith)
 
   -- one record more
-  pub up-next : (i : ℕ) → i < 32 → set (upTo l i) i (getD l (i + 1) blankTrain) ≡ upTo l (i + 1)
+  pub up-next : (i : ℕ) → i < 31 → set (upTo l i) i (getD l (i + 1) blankTrain) ≡ upTo l (i + 1)
   up-next i h =
-      let k = up-long in
-      rw (← (up-at l i), add-one, drop-cons l i blankTrain (omega arith), take-suc (up l) i blankTrain (omega arith))
-      (set-at (take i (up l)) (getD l i blankTrain) (drop (suc i) l) (getD (up l) i blankTrain) i (length-take-le i (up l) (omega arith))
-      ∙ sym (append-snoc (take i (up l)) (getD (up l) i blankTrain) (drop (suc i) l)))
+      let k = behind-long in
+      let next : getD (drop 1 l) i blankTrain ≡ getD l (i + 1) blankTrain = getD-drop 1 l i blankTrain ∙ ap (λ (n : ℕ). getD l n blankTrain) (omega arith) in
+      rw (← next, add-one, drop-cons l i blankTrain (omega arith), take-suc (drop 1 l) i blankTrain (omega arith))
+      (set-at (take i (drop 1 l)) (getD l i blankTrain) (drop (suc i) l) (getD (drop 1 l) i blankTrain) i (length-take-le i (drop 1 l) (omega arith))
+      ∙ sym (append-snoc (take i (drop 1 l)) (getD (drop 1 l) i blankTrain) (drop (suc i) l)))
 
-  -- and a blank one in the last place
-  pub up-last : set (upTo l 31) 31 blankTrain ≡ up l
-  up-last =
-      let k = up-long in
-      let blank : getD l 32 blankTrain ≡ blankTrain = List·getD-eq-default l blankTrain (omega arith) in
-      ap (set (upTo l 31) 31) (sym blank) ∙ up-next 31 (omega arith)
-      ∙ (rw (drop-of-length-le l {i = 32} (omega arith), take-all 32 (up l) (omega arith), append-nil))
+  -- of n trains, 32 at most have a place; i is that of the last one
+  module _ (n i : ℕ) (last : suc i ≡ min n 32) where
+    all-taken : take n l ≡ take (suc i) l
+    all-taken =
+        by-cases (decLe n 32)
+        (λ h. let same : n ≡ suc i = omega arith in ap (λ (k : ℕ). take k l) same)
+        (λ h. take-all n l (omega arith) ∙ sym (take-all (suc i) l (omega arith)))
+
+    all-dropped : drop n l ≡ drop (suc i) l
+    all-dropped =
+        by-cases (decLe n 32)
+        (λ h. let same : n ≡ suc i = omega arith in ap (λ (k : ℕ). drop k l) same)
+        (λ h. drop-of-length-le l {i = n} (omega arith) ∙ sym (drop-of-length-le l {i = suc i} (omega arith)))
+
+    -- and a blank record there
+    pub up-last : set (upTo l i) i blankTrain ≡ drop 1 (take n l) ++ (blankTrain ∷ drop n l)
+    up-last =
+        rw (all-taken, all-dropped, drop-take i l, drop-cons l i blankTrain (omega arith))
+        (set-at (take i (drop 1 l)) (getD l i blankTrain) (drop (suc i) l) blankTrain i (length-take-le i (drop 1 l) (omega (arith, behind-long))))

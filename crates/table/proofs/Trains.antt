@@ -1,12 +1,12 @@
 -- The array of 32 places against the list of trains on the line: what is read at a place, and what an accepted call makes of both.
 -- Assumes nothing.
-use Prim.Native.Nat.{ℕ, zero, suc, _-_, _≤_, _<_}
-use mathlib.Core.List.{List, [], _∷_, _++_}
+use Prim.Native.Nat.{ℕ, _-_, _≤_, _<_}
+use mathlib.Core.List.{[], _∷_, _++_}
 use mathlib.Core.Path.{_≡_, refl, sym, _∙_}
 use native.Mathlib.Numerals.{add-one}
 use native.Mathlib.Omega.{arith}
-use lib.ListN.{length, getD, set, take, drop, length-append, length-drop, length-set}
-use lib.Seq.{length-take-le, getD-take, take-set-lt, take-suc-set, take-append-le}
+use lib.ListN.{length, getD, set, drop, length-append, length-drop, length-set}
+use lib.Seq.{length-take-le, getD-take, take-set-lt, take-suc-set, take-at}
 use Rattle.train.specs.declared.Settings.{Settings}
 use Rattle.train.specs.declared.Train.{Train}
 use Rattle.table.specs.declared.Table.{Table}
@@ -44,16 +44,16 @@ sized-last t x z h = record { size = length-set (t .trains) (t .count) x ∙ z .
 
 -- ---- the first gone
 
-take-behind : (n : ℕ) (xs ys : List Train) → n ≤ length xs → take (n - 1) (drop 1 xs ++ ys) ≡ drop 1 (take n xs)
-take-behind zero xs ys h = refl
-take-behind (suc n) [] ys h = absurd (omega arith)
-take-behind (suc n) (x ∷ xs) ys h = let less : suc n - 1 ≡ n = omega arith in rw less (take-append-le n xs ys (omega arith))
+module _ (t : Table) (z : Sized t) where
+  moved : length (drop 1 (onLine t)) ≡ t .count - 1
+  moved = let line = line-length t z in let dropped = length-drop 1 (onLine t) in omega arith
 
-pub line-without-first : (t : Table) → Sized t → onLine (withoutFirst t) ≡ drop 1 (onLine t)
-line-without-first t z = take-behind (t .count) (t .trains) (blankTrain ∷ []) (omega arith)
+  pub line-without-first : onLine (withoutFirst t) ≡ drop 1 (onLine t)
+  line-without-first = take-at (drop 1 (onLine t)) _ (t .count - 1) moved
 
-pub sized-without-first : (t : Table) → Sized t → Sized (withoutFirst t)
-sized-without-first t z =
-    let joined = length-append (drop 1 (t .trains)) (blankTrain ∷ []) in
-    let dropped = length-drop 1 (t .trains) in
-    record { size = omega arith; count = omega arith }
+  pub sized-without-first : 0 < t .count → Sized (withoutFirst t)
+  sized-without-first some =
+      let joined = length-append (drop 1 (onLine t)) (blankTrain ∷ drop (t .count) (t .trains)) in
+      let spare = length-drop (t .count) (t .trains) in
+      let line = moved in
+      record { size = omega arith; count = omega arith }

@@ -66,6 +66,6 @@ withTrain t i x = record { trains = set (t .trains) i x; settings = t .settings;
 abbrev pub withLast : Table → Train → Table
 withLast t x = record { trains = set (t .trains) (t .count) x; settings = t .settings; count = t .count + 1 }
 
--- the first train gone, and the others one place nearer the front
+-- the first train gone, the others one place nearer the front, and the place of the last blank
 abbrev pub withoutFirst : Table → Table
-withoutFirst t = record { trains = drop 1 (t .trains) ++ (blankTrain ∷ []); settings = t .settings; count = t .count - 1 }
+withoutFirst t = record { trains = drop 1 (onLine t) ++ (blankTrain ∷ drop (t .count) (t .trains)); settings = t .settings; count = t .count - 1 }

@@ -1,7 +1,7 @@
 // The table of trains: 32 places, by value.
 ghost use mathlib.Core.Path.{_≡_};
 ghost use mathlib.Core.Bool.{true};
-ghost use Prim.Native.Nat.{_+_, _^_, _<_};
+ghost use Prim.Native.Nat.{min, _+_, _-_, _^_, _<_};
 ghost use Rattle.train.specs.Acts.{withinLimit};
 ghost use Rattle.table.specs.Table.{blankTrain, emptyTable, findOf, trainAt, aheadOf, withTrain, withLast, withoutFirst};
 use brake::Figures;
@@ -108,19 +108,31 @@ pub fn with_last(t: Table, x: Train) -> Table
     u
 }
 
-// The first train gone: the others move up, and the last place is blank.
+// The place of the last of n trains.
+fn last_place(n: usize) -> usize
+    requires { ⌜ 0 < n ⌝ }
+    ensures { λ r. ⌜ r ≡ min n 32 - 1 ⌝ }
+{
+    if n < 32 {
+        return n - 1;
+    }
+    31
+}
+
+// The first train gone: the others move up, and the place of the last is blank.
 pub fn without_first(t: Table) -> Table
     requires { ⌜ 0 < t .count ⌝ }
     ensures { λ r. ⌜ r ≡ withoutFirst t ⌝ }
 {
     let n = t.count;
+    let last = last_place(n);
     let mut u = t;
     let mut i: usize = 0;
-    while i < 31 {
+    while i < last {
         u.trains[i] = t.trains[i + 1];
         i += 1;
     }
-    u.trains[31] = blank_train();
+    u.trains[last] = blank_train();
     u.count = n - 1;
     u
 }
