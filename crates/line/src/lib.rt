@@ -2,7 +2,8 @@
 ghost use mathlib.Core.Path.{_≡_};
 ghost use mathlib.Core.Bool.{true, cond, _&&_};
 ghost use Rattle.train.specs.Ranges.{idInRange, startInRange};
-ghost use Rattle.line.specs.Step.{refused, openStep, enterStep, step};
+ghost use Rattle.table.specs.Table.{emptyTable};
+ghost use Rattle.line.specs.Step.{refused, noSettings, openStep, enterStep, step};
 use brake::Figures;
 use brake::FiguresFound;
 use calls::Answer;
@@ -30,6 +31,20 @@ fn refuse(t: Table, r: Refusal) -> Outcome
     }
 }
 
+// Zeros in place of a table, where no opening has made one.
+pub fn no_table() -> Table
+    ensures { λ r. ⌜ r ≡ emptyTable noSettings ⌝ }
+{
+    table::empty_table(Settings {
+        end: 0,
+        safety: 0,
+        limits: Limits {
+            ceiling: 0,
+            traction: 0,
+        },
+    })
+}
+
 // Open: a new table with no train. A table already there is another one.
 pub fn open(s: Settings) -> Outcome
     ensures { λ r. ⌜ r ≡ openStep s ⌝ }
@@ -40,15 +55,7 @@ pub fn open(s: Settings) -> Outcome
             table: table::empty_table(s),
         };
     }
-    let none = Settings {
-        end: 0,
-        safety: 0,
-        limits: Limits {
-            ceiling: 0,
-            traction: 0,
-        },
-    };
-    refuse(table::empty_table(none), Refusal::BadSetting)
+    refuse(no_table(), Refusal::BadSetting)
 }
 
 // Enter: behind the last train, standing.

@@ -10,7 +10,6 @@ ghost use Rattle.stream.specs.Session.{closed, turnedDown, replyTo, answ
 ghost use Rattle.stream.specs.Input.{outputLine, begun, kept, over, lastWritten, Taken, FeedPromise};
 use calls::Call;
 use calls::Numbers;
-use motion::Limits;
 use table::Table;
 use train::Settings;
 use wire::LineRead;
@@ -120,18 +119,10 @@ pub fn answer(s: Session, line: &[u8]) -> Reply
 pub fn start() -> Stream
     ensures { λ r. ⌜ (r .session ≡ closed) × (begun r ≡ []) ⌝ }
 {
-    let none = Settings {
-        end: 0,
-        safety: 0,
-        limits: Limits {
-            ceiling: 0,
-            traction: 0,
-        },
-    };
     Stream {
         session: Session {
             opened: false,
-            table: table::empty_table(none),
+            table: line::no_table(),
         },
         bytes: [0u8; 73],
         count: 0,

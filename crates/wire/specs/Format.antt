@@ -52,12 +52,6 @@ unfoldable pub columns : Scan → List ℕ → Scan
 columns f [] = f
 columns f (b ∷ bs) = columns (column f b) bs
 
--- the number read so far
-abbrev pub soFar : Scan → ℕ
-soFar Blank = 0
-soFar (Digits n) = n
-soFar Bad = 0
-
 -- a field of spaces alone is none
 abbrev pub ended : Scan → Field
 ended Blank = NoNumber
@@ -76,10 +70,6 @@ withNumber NoNumber ns = none
 unfoldable pub numbersIn : List ℕ → List ℕ → Option (List ℕ)
 numbersIn [] line = some []
 numbersIn (w ∷ ws) line = withNumber (fieldOf (take w line)) (numbersIn ws (drop w line))
-
--- a row of the code, taken for such numbers
-abbrev pub rowNumbers : Row → Option (List ℕ)
-rowNumbers r = cond (r .readable) (some (r .numbers)) none
 
 -- 1 open (line end, safety distance, V, A); unused numbers are 0
 unfoldable pub openingOf : ℕ → ℕ → ℕ → ℕ → ℕ → LineRead
@@ -130,3 +120,15 @@ textOf (w ∷ ws) (n ∷ ns) = text w n ++ textOf ws ns
 -- an output line without its line feed
 unfoldable pub answerText : Numbers → List ℕ
 answerText a = textOf answerColumns (a .number ∷ a .first ∷ a .second ∷ a .third ∷ [])
+
+-- ---- words of the code's inner contracts
+
+-- the number read so far
+abbrev pub soFar : Scan → ℕ
+soFar Blank = 0
+soFar (Digits n) = n
+soFar Bad = 0
+
+-- a row as the numbers of a line
+abbrev pub rowNumbers : Row → Option (List ℕ)
+rowNumbers r = cond (r .readable) (some (r .numbers)) none

@@ -16,8 +16,8 @@ returns : tie.Need-returns
 unfolding openStep
 returns c = rw (sym (c .before .before .settings-in-range .ensures) ∙ c .before .if1 .taken, c .empty-table .ensures, openStep)
 
-empty-table-requires-2 : tie.Need-empty-table-requires-2
-empty-table-requires-2 c κs = search needs
+no-table-requires : tie.Need-no-table-requires
+no-table-requires c κs = search needs
 
 refuse-requires : tie.Need-refuse-requires
 refuse-requires c κs = search needs
@@ -26,7 +26,7 @@ returns-2 : tie.Need-returns-2
 unfolding openStep
 returns-2 c =
     let test = c .before .before in
-    rw (sym (test .before .settings-in-range .ensures) ∙ test .if1 .left, openStep) (c .refuse .ensures ∙ (rw (c .before .empty-table2 .ensures)))
+    rw (sym (test .before .settings-in-range .ensures) ∙ test .if1 .left, openStep) (c .refuse .ensures ∙ (rw (c .before .no-table .ensures)))
 
 pub open-spec : {M : Type 1} → statement M
 open-spec =
@@ -35,6 +35,6 @@ open-spec =
     settings-in-range-requires
     empty-table-requires
     returns
-    empty-table-requires-2
+    no-table-requires
     refuse-requires
     returns-2)

@@ -1,6 +1,5 @@
 -- `stream::answer` meets its contract.
 -- Assumes nothing.
-use Prim.Native.Nat.{_-_}
 use mathlib.Core.Path.{sym, ap, _∙_}
 use borrow.Author.Needs.{needs}
 use Rattle.stream.specs.Session.{replyTo}

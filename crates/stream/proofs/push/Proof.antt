@@ -1,6 +1,5 @@
 -- `stream::push` meets its contract.
 -- Assumes nothing.
-use Prim.Native.Nat.{_-_}
 use borrow.Author.Needs.{needs}
 use Rattle.stream.proofs.Bytes.{keep-more, keep-full}
 use Rattle.stream.proofs.push.Statement.{statement}

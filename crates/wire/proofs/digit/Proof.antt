@@ -1,6 +1,5 @@
 -- `wire::digit` meets its contract.
 -- Assumes nothing.
-use Prim.Native.Nat.{_-_}
 use borrow.Author.Tests.{le-leb, lt-leb}
 use borrow.Author.Needs.{needs}
 use Rattle.wire.specs.Format.{digit}

@@ -1,6 +1,5 @@
 -- `wire::opening` meets its contract.
 -- Assumes nothing.
-use Prim.Native.Nat.{_-_}
 use borrow.Author.Tests.{eq-eqb, ne-eqb}
 use Rattle.wire.specs.Format.{openingOf}
 use Rattle.wire.proofs.opening.Statement.{statement}
