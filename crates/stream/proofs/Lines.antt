@@ -57,7 +57,7 @@ module _ (s : Session) (g w : List ℕ) (b : ℕ) (bs : List ℕ) where
   standing-byte h = simp (ne-eqb b 10 h)
 
   -- a line feed: the line is answered
-  pub standing-line : b ≡ 10
+  standing-line : b ≡ 10
       → standing s g w (b ∷ bs) ≡ standing (answered s g .session) [] (w ++ outputLine (answered s g .answer)) bs
   unfolding lines rest after answers
   standing-line h = simp (eq-eqb b 10 h, append-assoc)
@@ -82,7 +82,7 @@ standing-kept s g w (b ∷ bs) =
     ∙ sym (standing-byte s g w b bs h))
 
 -- a byte of a line: it is kept if it is among the first 73
-pub standing-more : (s : Session) (g w : List ℕ) (b : ℕ) (bs : List ℕ) → (b ≡ 10 → ⊥)
+standing-more : (s : Session) (g w : List ℕ) (b : ℕ) (bs : List ℕ) → (b ≡ 10 → ⊥)
     → standing s g w (b ∷ bs) ≡ standing s (kept (g ++ (b ∷ []))) w bs
 standing-more s g w b bs h = standing-byte s g w b bs h ∙ sym (standing-kept s (g ++ (b ∷ [])) w bs)
 
