@@ -39,20 +39,13 @@ reach k m o = stoppingPlace k (worstCase k m o)
 abbrev pub offer : Figures → Motion → Order → Offer
 offer k m o = record { order = o; reach = reach k m o }
 
--- cap c may be given: v + c is at most V, and the reach is at most the goal. The goal is the place that orders are worked
--- out against: the end of authority.
-unfoldable pub capFits : Figures → Limits → ℕ → Motion → ℕ → Bool
-capFits k l goal m c = leb (driveSpeed k (m .speed) c) (l .ceiling) && leb (reach k m (Drive c)) goal
-
--- its second half: the reach of cap c is at most the goal
+-- the reach of cap c is at most the goal: the place that orders are worked out against, the end of authority
 abbrev pub keepsGoal : Figures → ℕ → Motion → ℕ → Bool
 keepsGoal k goal m c = leb (reach k m (Drive c)) goal
 
--- of the caps from 0 to A, those below n and no others keep v + c at most V
-pub record CapsAllowed (k : Figures) (l : Limits) (v n : ℕ) : Type 0 where
-  pub within : n ≤ l .traction + 1
-  pub keep : (c : ℕ) → c < n → driveSpeed k v c ≤ l .ceiling
-  pub exceed : (c : ℕ) → n ≤ c → c ≤ l .traction → l .ceiling < driveSpeed k v c
+-- cap c may be given: v + c is at most V, and the reach is at most the goal
+unfoldable pub capFits : Figures → Limits → ℕ → Motion → ℕ → Bool
+capFits k l goal m c = leb (driveSpeed k (m .speed) c) (l .ceiling) && keepsGoal k goal m c
 
 -- drive with the greatest cap from 0 to n that passes a test, looked for from n downwards; no such cap: brake
 unfoldable pub greatest : (ℕ → Bool) → ℕ → Order
@@ -62,3 +55,11 @@ greatest passes (suc n) = elim (passes (suc n)) [ true ↦ Drive (suc n) | false
 -- the order of a train that is not held
 unfoldable pub orderFor : Figures → Limits → ℕ → Motion → Order
 orderFor k l goal m = greatest (capFits k l goal m) (l .traction)
+
+-- ---- words of the code's inner contracts
+
+-- of the caps from 0 to A, those below n and no others keep v + c at most V
+pub record CapsAllowed (k : Figures) (l : Limits) (v n : ℕ) : Type 0 where
+  pub within : n ≤ l .traction + 1
+  pub keep : (c : ℕ) → c < n → driveSpeed k v c ≤ l .ceiling
+  pub exceed : (c : ℕ) → n ≤ c → c ≤ l .traction → l .ceiling < driveSpeed k v c
