@@ -1,5 +1,5 @@
 -- Document 01, "The session program": a whole input and its output. Then the same where the input comes in pieces.
-use Prim.Native.Nat.{ℕ, _/_}
+use Prim.Native.Nat.{ℕ, _/_, _≤_}
 use mathlib.Core.Path.{_≡_}
 use mathlib.Core.Bool.{Bool, true, false, cond}
 use mathlib.Core.List.{List, [], _∷_, _++_}
@@ -91,10 +91,20 @@ pub record FeedPromise (x : Stream) (piece out : List ℕ) (r : Fed) (now : List
 abbrev pub lastWritten : Stream → List ℕ → List ℕ
 lastWritten x out = cond (leb 45 (length out)) (lastAnswer (begun x)) []
 
--- all that is written where the input comes in these pieces: after each piece what `feed` wrote, at the end what `finish` wrote
-unfoldable pub written : Session → List ℕ → List (List ℕ) → List ℕ
-written s b [] = lastAnswer b
-written s b (piece ∷ pieces) = answers s (lines b piece) ++ written (after s (lines b piece)) (kept (rest b piece)) pieces
+-- One turn of a program: `feed` takes a piece, and the bytes w that it counts in its buffer are written.
+pub record Turn (x : Stream) (piece : List ℕ) (y : Stream) (w : List ℕ) : Type 0 where
+  pub out : List ℕ
+  pub now : List ℕ
+  pub fed : Fed
+  pub promise : FeedPromise x piece out fed now
+  pub taken : fed .taken ≡ true
+  pub next : y ≡ fed .stream
+  pub written : w ≡ take (fed .count) now
+
+-- All that is written, w, where the input comes in these pieces: a turn for each, and at its end what `finish` writes.
+abbrev pub Written : Stream → List (List ℕ) → List ℕ → Type 0
+Written x [] w = (out : List ℕ) × (45 ≤ length out) × (w ≡ lastWritten x out)
+Written x (piece ∷ pieces) w = (y : Stream) × (v : List ℕ) × (u : List ℕ) × Turn x piece y v × Written y pieces u × (w ≡ v ++ u)
 
 unfoldable pub joined : List (List ℕ) → List ℕ
 joined [] = []

@@ -5,6 +5,7 @@ ghost use mathlib.Core.List.{[], _∷_, _++_};
 ghost use Prim.Native.Nat.{_+_, _*_, _≤_};
 ghost use lib.ListN.{length, take};
 ghost use lib.Seq.{paste};
+ghost use Rattle.calls.specs.Answers.{numbers};
 ghost use Rattle.wire.specs.declared.LineRead.the-variants.{Opening, Calling};
 ghost use Rattle.stream.specs.Session.{closed, turnedDown, replyTo, answered};
 ghost use Rattle.stream.specs.Input.{outputLine, begun, kept, over, lastWritten, Taken, FeedPromise};
@@ -42,16 +43,24 @@ pub struct Fed {
 
 // ---- one line
 
+// The program's own refusals, 1 and 2: the number and zeros.
+fn refusal(n: u64) -> Numbers
+    ensures { λ r. ⌜ r ≡ numbers n 0 0 0 ⌝ }
+{
+    Numbers {
+        number: n,
+        first: 0,
+        second: 0,
+        third: 0,
+    }
+}
+
+// A refusal alters nothing.
 fn turn_down(s: Session, n: u64) -> Reply
     ensures { λ r. ⌜ r ≡ turnedDown n s ⌝ }
 {
     Reply {
-        answer: Numbers {
-            number: n,
-            first: 0,
-            second: 0,
-            third: 0,
-        },
+        answer: refusal(n),
         session: s,
     }
 }
@@ -165,6 +174,7 @@ fn put_line(out: &mut [u8], at: usize, a: Numbers)
     out[at + 44] = 10;
 }
 
+// The whole piece. One answer for a line feed, so that 45 bytes for each byte are room enough.
 fn feed_all(x: Stream, piece: &[u8], out: &mut [u8]) -> Fed
     requires { ⌜ 45 * length (now piece) ≤ length (now out) ⌝ }
     ensures { λ r. ⌜ (r .taken ≡ true) × Taken x (now (piece .entry)) (now (out .entry)) r (now (out .exit)) ⌝ }
@@ -224,15 +234,6 @@ pub fn finish(x: Stream, out: &mut [u8]) -> usize
     if out.len() < 45 {
         return 0;
     }
-    put_line(
-        out,
-        0,
-        Numbers {
-            number: 1,
-            first: 0,
-            second: 0,
-            third: 0,
-        },
-    );
+    put_line(out, 0, refusal(1));
     45
 }

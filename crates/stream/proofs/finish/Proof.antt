@@ -20,20 +20,28 @@ returns-2 c =
     let e = no-room (a .x) (a .out .now) (c .if2 .taken) in
     (rw e refl, rw e refl)
 
+refusal-requires : tie.Need-refusal-requires
+refusal-requires c κs = search needs
+
 put-line-requires : tie.Need-put-line-requires
 put-line-requires c κs = search needs
 
 same-length : tie.Need-same-length
 same-length c = search needs
 
+long : (c : tie.Start) → length (c .args .x .bytes) ≡ 73
+long c = search needs
+
 returns-3 : tie.Need-returns-3
 returns-3 c =
     let p = c .before .before in
-    let s = p .before .before .before .before .before .before in
-    let a = s .args in
-    let long : length (a .x .bytes) ≡ 73 = search needs in
-    let e = line-begun (a .x) (a .out .now) (p .before .before .if2 .left) (p .before .before .before .if1 .left) long in
-    (rw e (p .put-line .ensures ∙ output-first (a .out .now) (numbers 1 0 0 0)), rw e (sym (output-long (numbers 1 0 0 0))))
+    let room = p .before .before .before in
+    let start = room .before .before .before .before in
+    let a = start .args in
+    let e = line-begun (a .x) (a .out .now) (room .if2 .left) (room .before .if1 .left) (long start) in (
+      rw (e, ← p .before .refusal .ensures) (p .put-line .ensures ∙ output-first (a .out .now) (p .before .refusal .result)),
+      rw e (sym (output-long (numbers 1 0 0 0))),
+    )
 
 pub finish-spec : {M : Type 1} → statement M
-finish-spec = tie.close (tie.spec returns returns-2 put-line-requires same-length returns-3)
+finish-spec = tie.close (tie.spec returns returns-2 refusal-requires put-line-requires same-length returns-3)
