@@ -70,9 +70,14 @@ fn run(piece: &mut [u8], out: &mut [u8]) {
     }
 }
 
-// 45 bytes of output for each byte of a piece: each may be a line feed.
+// The bytes of one read at most.
+const PIECE: usize = 4096;
+
+// An output line for each byte of a piece: each may be a line feed.
+const OUT: usize = PIECE * stream::OUTPUT_WIDTH;
+
 fn main() {
-    let mut piece = [0u8; 4096];
-    let mut out = [0u8; 184320];
+    let mut piece = [0u8; PIECE];
+    let mut out = [0u8; OUT];
     run(&mut piece, &mut out);
 }

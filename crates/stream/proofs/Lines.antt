@@ -10,14 +10,14 @@ use lib.Seq.{take-all, take-take, length-take-le, drop-cons}
 use native.Mathlib.Numerals.{add-one}
 use borrow.Author.Tests.{eq-eqb, ne-eqb, eqb-true, eqb-false, leb-true, leb-false}
 use Rattle.brake.proofs.Tests.{by-test}
-use Rattle.wire.specs.Format.{lineRead}
+use Rattle.wire.specs.Format.{callWidth, lineRead}
 use Rattle.wire.specs.declared.LineRead.{LineRead}
 use Rattle.stream.specs.declared.Session.{Session}
 use Rattle.stream.specs.declared.Reply.{Reply}
 use Rattle.stream.specs.declared.Stream.{Stream}
 use Rattle.stream.specs.declared.Fed.{Fed}
 use Rattle.stream.specs.Session.{replyTo, answered}
-use Rattle.stream.specs.Input.{lines, rest, after, outputLine, answers, begun, kept, Taken, TakenOrLeft, FeedPromise}
+use Rattle.stream.specs.Input.{lines, rest, after, outputLine, answers, begun, keptWidth, kept, Taken, TakenOrLeft, FeedPromise}
 use Rattle.stream.proofs.Bytes.{over-within}
 
 -- Where a session stands once it has taken bytes in: the state, the line that has begun, and what has been written.
@@ -29,18 +29,18 @@ pub record Standing : Type 0 where
 abbrev pub standing : Session → List ℕ → List ℕ → List ℕ → Standing
 standing s g w bs = record { session = after s (lines g bs); begins = kept (rest g bs); written = w ++ answers s (lines g bs) }
 
--- ---- of a line that is too long 73 bytes are enough
+-- ---- of a line that is too long the kept bytes are enough
 
-read-long : (l : List ℕ) → 73 < length l → lineRead (kept l) ≡ lineRead l
+read-long : (l : List ℕ) → keptWidth < length l → lineRead (kept l) ≡ lineRead l
 unfolding lineRead
 read-long l h =
-    let e : (length (kept l) ≡ 72 → ⊥) = λ p. omega (arith, length-take 73 l) in
-    simp (ne-eqb (length (kept l)) 72 e, ne-eqb (length l) 72 (λ p. omega arith))
+    let e : (length (kept l) ≡ callWidth → ⊥) = λ p. omega (arith, length-take keptWidth l) in
+    simp (ne-eqb (length (kept l)) callWidth e, ne-eqb (length l) callWidth (λ p. omega arith))
 
 read-kept : (l : List ℕ) → lineRead (kept l) ≡ lineRead l
 read-kept l =
-    by-test (leb (length l) 73)
-    (λ e. ap lineRead (take-all 73 l (leb-true _ _ e)))
+    by-test (leb (length l) keptWidth)
+    (λ e. ap lineRead (take-all keptWidth l (leb-true _ _ e)))
     (λ e. read-long l (leb-false _ _ e))
 
 kept-append : (n : ℕ) (l r : List ℕ) → take n (take n l ++ r) ≡ take n (l ++ r)
@@ -62,10 +62,10 @@ module _ (s : Session) (g w : List ℕ) (b : ℕ) (bs : List ℕ) where
   unfolding lines rest after answers
   standing-line h = simp (eq-eqb b 10 h, append-assoc)
 
--- what is beyond the first 73 bytes of the line that has begun makes no difference
+-- what is beyond the kept bytes of the line that has begun makes no difference
 pub standing-kept : (s : Session) (g w bs : List ℕ) → standing s (kept g) w bs ≡ standing s g w bs
 unfolding lines rest after answers
-standing-kept s g w [] = ap (λ (h : List ℕ). record { session = s; begins = h; written = w ++ [] }) (take-take 73 73 g (omega arith))
+standing-kept s g w [] = ap (λ (h : List ℕ). record { session = s; begins = h; written = w ++ [] }) (take-take keptWidth keptWidth g (omega arith))
 standing-kept s g w (b ∷ bs) =
     by-test (eqb b 10)
     (λ e.
@@ -77,11 +77,11 @@ standing-kept s g w (b ∷ bs) =
     let h : (b ≡ 10 → ⊥) = eqb-false b 10 e in
     standing-byte s (kept g) w b bs h
     ∙ sym (standing-kept s (kept g ++ (b ∷ [])) w bs)
-    ∙ ap (λ (l : List ℕ). standing s l w bs) (kept-append 73 g (b ∷ []))
+    ∙ ap (λ (l : List ℕ). standing s l w bs) (kept-append keptWidth g (b ∷ []))
     ∙ standing-kept s (g ++ (b ∷ [])) w bs
     ∙ sym (standing-byte s g w b bs h))
 
--- a byte of a line: it is kept if it is among the first 73
+-- a byte of a line: it is kept if it is among the first ones
 standing-more : (s : Session) (g w : List ℕ) (b : ℕ) (bs : List ℕ) → (b ≡ 10 → ⊥)
     → standing s g w (b ∷ bs) ≡ standing s (kept (g ++ (b ∷ []))) w bs
 standing-more s g w b bs h = standing-byte s g w b bs h ∙ sym (standing-kept s (g ++ (b ∷ [])) w bs)
@@ -114,13 +114,13 @@ module _ (s : Session) (g w piece : List ℕ) (i : ℕ) (more : i < length piece
 
 -- the whole piece is taken: out holds the first `at` bytes as written and the others as before
 module _ (x : Stream) (piece before out bytes : List ℕ) (s : Session) (count at : ℕ) where
-  pub piece-taken : at ≤ length out → length bytes ≡ 73 → drop at out ≡ drop at before
+  pub piece-taken : at ≤ length out → length bytes ≡ keptWidth → drop at out ≡ drop at before
       → standing (x .session) (begun x) [] piece ≡ record { session = s; begins = kept (take count bytes); written = take at out }
       → Taken x piece before (record { taken = true; stream = record { session = s; bytes = bytes; count = count }; count = at }) out
   piece-taken room long same e =
       let w : answers (x .session) (lines (begun x) piece) ≡ take at out = ap (λ (z : Standing). z .written) e in
       let n : at ≡ length (answers (x .session) (lines (begun x) piece)) = sym (ap length w ∙ length-take-le at out room) in
-      let all : kept (take count bytes) ≡ take count bytes = take-all 73 (take count bytes) (omega (arith, length-take count bytes)) in
+      let all : kept (take count bytes) ≡ take count bytes = take-all keptWidth (take count bytes) (omega (arith, length-take count bytes)) in
       record {
         session = sym (ap (λ (z : Standing). z .session) e);
         begins = sym (ap (λ (z : Standing). z .begins) e ∙ all);

@@ -11,7 +11,7 @@ use Rattle.brake.proofs.Tests.{by-test}
 use Rattle.stream.specs.declared.Session.{Session}
 use Rattle.stream.specs.declared.Stream.{Stream}
 use Rattle.stream.specs.Session.{closed, answered}
-use Rattle.stream.specs.Input.{lines, rest, after, outputLine, answers, lastAnswer, output, begun, kept, Taken, TakenOrLeft, Turn, Written, joined}
+use Rattle.stream.specs.Input.{lines, rest, after, outputLine, answers, lastAnswer, output, begun, kept, outputWidth, Taken, TakenOrLeft, Turn, Written, joined}
 use Rattle.stream.proofs.Lines.{Standing, standing-kept}
 
 -- all that is written from the state s on, where the bytes g have begun a line
@@ -33,7 +33,7 @@ unfolding lastAnswer
 last-kept [] = refl
 last-kept (x ∷ g) = refl
 
--- the same in pieces, with the first 73 bytes of the line that has begun
+-- the same in pieces, with the kept bytes of the line that has begun
 written : Session → List ℕ → List (List ℕ) → List ℕ
 written s b [] = lastAnswer b
 written s b (piece ∷ pieces) = answers s (lines b piece) ++ written (after s (lines b piece)) (kept (rest b piece)) pieces
@@ -68,7 +68,7 @@ module _ (x : Stream) (piece : List ℕ) (y : Stream) (w : List ℕ) (t : Turn x
 
 turns-written : (x : Stream) (pieces : List (List ℕ)) (w : List ℕ) → Written x pieces w → w ≡ written (x .session) (begun x) pieces
 unfolding written
-turns-written x [] w (out, room, e) = e ∙ (rw (le-leb 45 (length out) room) refl)
+turns-written x [] w (out, room, e) = e ∙ (rw (le-leb outputWidth (length out) room) refl)
 turns-written x (piece ∷ pieces) w (y, v, u, t, more, e) =
     e
     ∙ ap (λ (l : List ℕ). l ++ u) (turn-written x piece y v t)

@@ -1,5 +1,5 @@
 -- Document 01, "The session program": a whole input and its output. Then the same where the input comes in pieces.
-use Prim.Native.Nat.{ℕ, _/_, _≤_}
+use Prim.Native.Nat.{ℕ, _+_, _/_, _≤_}
 use mathlib.Core.Path.{_≡_}
 use mathlib.Core.Bool.{Bool, true, false, cond}
 use mathlib.Core.List.{List, [], _∷_, _++_}
@@ -7,7 +7,7 @@ use lib.Dec.{eqb, leb}
 use lib.ListN.{length, take, drop}
 use Rattle.calls.specs.declared.Numbers.{Numbers}
 use Rattle.calls.specs.Answers.{numbers}
-use Rattle.wire.specs.Format.{answerText}
+use Rattle.wire.specs.Format.{callWidth, answerWidth, answerText}
 use Rattle.stream.specs.declared.Session.{Session}
 use Rattle.stream.specs.declared.Stream.{Stream}
 use Rattle.stream.specs.declared.Fed.{Fed}
@@ -53,13 +53,20 @@ output input = answers closed (lines [] input) ++ lastAnswer (rest [] input)
 abbrev pub begun : Stream → List ℕ
 begun x = take (x .count) (x .bytes)
 
--- only the first 73 are kept: a line of more than 72 bytes is unreadable, whatever follows
-abbrev pub kept : List ℕ → List ℕ
-kept l = take 73 l
+-- only the first are kept, one more than a call's line has: a longer line is unreadable, whatever follows
+abbrev pub keptWidth : ℕ
+keptWidth = callWidth + 1
 
--- room for an output line of 45 bytes for each byte of the piece, since each may be a line feed
+abbrev pub kept : List ℕ → List ℕ
+kept l = take keptWidth l
+
+-- an output line with its line feed
+abbrev pub outputWidth : ℕ
+outputWidth = answerWidth + 1
+
+-- room for an output line for each byte of the piece, since each may be a line feed
 unfoldable pub hasRoom : List ℕ → List ℕ → Bool
-hasRoom piece out = leb (length piece) (length out / 45)
+hasRoom piece out = leb (length piece) (length out / outputWidth)
 
 -- the bytes w written over the first of out
 abbrev pub over : List ℕ → List ℕ → List ℕ
@@ -89,7 +96,7 @@ pub record FeedPromise (x : Stream) (piece out : List ℕ) (r : Fed) (now : List
 
 -- What `finish` writes at the end of the input, where out has room for an output line.
 abbrev pub lastWritten : Stream → List ℕ → List ℕ
-lastWritten x out = cond (leb 45 (length out)) (lastAnswer (begun x)) []
+lastWritten x out = cond (leb outputWidth (length out)) (lastAnswer (begun x)) []
 
 -- One turn of a program: `feed` takes a piece, and the bytes w that it counts in its buffer are written.
 pub record Turn (x : Stream) (piece : List ℕ) (y : Stream) (w : List ℕ) : Type 0 where
@@ -103,7 +110,7 @@ pub record Turn (x : Stream) (piece : List ℕ) (y : Stream) (w : List ℕ) : Ty
 
 -- All that is written, w, where the input comes in these pieces: a turn for each, and at its end what `finish` writes.
 abbrev pub Written : Stream → List (List ℕ) → List ℕ → Type 0
-Written x [] w = (out : List ℕ) × (45 ≤ length out) × (w ≡ lastWritten x out)
+Written x [] w = (out : List ℕ) × (outputWidth ≤ length out) × (w ≡ lastWritten x out)
 Written x (piece ∷ pieces) w = (y : Stream) × (v : List ℕ) × (u : List ℕ) × Turn x piece y v × Written y pieces u × (w ≡ v ++ u)
 
 unfoldable pub joined : List (List ℕ) → List ℕ

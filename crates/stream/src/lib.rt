@@ -8,12 +8,18 @@ ghost use lib.Seq.{paste};
 ghost use Rattle.calls.specs.Answers.{numbers};
 ghost use Rattle.wire.specs.declared.LineRead.the-variants.{Opening, Calling};
 ghost use Rattle.stream.specs.Session.{closed, turnedDown, replyTo, answered};
-ghost use Rattle.stream.specs.Input.{outputLine, begun, kept, over, lastWritten, Taken, FeedPromise};
+ghost use Rattle.stream.specs.Input.{outputLine, begun, keptWidth, kept, outputWidth, over, lastWritten, Taken, FeedPromise};
 use calls::Call;
 use calls::Numbers;
 use table::Table;
 use train::Settings;
 use wire::LineRead;
+
+// The bytes that are kept of a line. One more than a call has: enough to tell that the line is too long.
+const KEPT_WIDTH: usize = wire::CALL_WIDTH + 1;
+
+// An output line with its line feed.
+pub const OUTPUT_WIDTH: usize = wire::ANSWER_WIDTH + 1;
 
 // The state between lines: whether an opening was accepted, and the table that it made.
 pub struct Session {
@@ -27,10 +33,10 @@ pub struct Reply {
     pub session: Session,
 }
 
-// A session in the middle of its input: the first bytes of the line that has begun. 73 are enough to tell that it is too long.
+// A session in the middle of its input: the first bytes of the line that has begun.
 pub struct Stream {
     pub session: Session,
-    pub bytes: [u8; 73],
+    pub bytes: [u8; KEPT_WIDTH],
     pub count: usize,
 }
 
@@ -133,17 +139,17 @@ pub fn start() -> Stream
             opened: false,
             table: line::no_table(),
         },
-        bytes: [0u8; 73],
+        bytes: [0u8; KEPT_WIDTH],
         count: 0,
     }
 }
 
 // One byte more of a line.
 fn push(bytes: &mut [u8], count: usize, b: u8) -> usize
-    requires { ⌜ length (now bytes) ≡ 73 ⌝ }
+    requires { ⌜ length (now bytes) ≡ keptWidth ⌝ }
     ensures { λ r. ⌜ take r (now (bytes .exit)) ≡ kept (take count (now (bytes .entry)) ++ (b ∷ [])) ⌝ }
 {
-    if count < 73 {
+    if count < KEPT_WIDTH {
         bytes[count] = b;
         return count + 1;
     }
@@ -162,21 +168,21 @@ fn answer_begun(s: Session, bytes: &[u8], count: usize) -> Reply
 
 // Writes the output line of an answer into out, from place `at` on.
 fn put_line(out: &mut [u8], at: usize, a: Numbers)
-    requires { ⌜ at + 45 ≤ length (now out) ⌝ }
-    ensures { λ _. ⌜ now (out .exit) ≡ paste (now (out .entry)) at (outputLine a) 45 ⌝ }
+    requires { ⌜ at + outputWidth ≤ length (now out) ⌝ }
+    ensures { λ _. ⌜ now (out .exit) ≡ paste (now (out .entry)) at (outputLine a) outputWidth ⌝ }
 {
     let line = wire::render(a);
     let mut i: usize = 0;
-    while i < 44 {
+    while i < wire::ANSWER_WIDTH {
         out[at + i] = line[i];
         i += 1;
     }
-    out[at + 44] = 10;
+    out[at + wire::ANSWER_WIDTH] = 10;
 }
 
-// The whole piece. One answer for a line feed, so that 45 bytes for each byte are room enough.
+// The whole piece. One answer for a line feed, so that an output line for each byte is room enough.
 fn feed_all(x: Stream, piece: &[u8], out: &mut [u8]) -> Fed
-    requires { ⌜ 45 * length (now piece) ≤ length (now out) ⌝ }
+    requires { ⌜ outputWidth * length (now piece) ≤ length (now out) ⌝ }
     ensures { λ r. ⌜ (r .taken ≡ true) × Taken x (now (piece .entry)) (now (out .entry)) r (now (out .exit)) ⌝ }
 {
     let mut session = x.session;
@@ -193,7 +199,7 @@ fn feed_all(x: Stream, piece: &[u8], out: &mut [u8]) -> Fed
         }
         let r = answer_begun(session, &bytes, count);
         put_line(out, at, r.answer);
-        at += 45;
+        at += OUTPUT_WIDTH;
         session = r.session;
         count = 0;
     }
@@ -213,7 +219,7 @@ fn feed_all(x: Stream, piece: &[u8], out: &mut [u8]) -> Fed
 pub fn feed(x: Stream, piece: &[u8], out: &mut [u8]) -> Fed
     ensures { λ r. ⌜ FeedPromise x (now (piece .entry)) (now (out .entry)) r (now (out .exit)) ⌝ }
 {
-    if out.len() / 45 < piece.len() {
+    if out.len() / OUTPUT_WIDTH < piece.len() {
         return Fed {
             taken: false,
             stream: x,
@@ -231,9 +237,9 @@ pub fn finish(x: Stream, out: &mut [u8]) -> usize
     if x.count == 0 {
         return 0;
     }
-    if out.len() < 45 {
+    if out.len() < OUTPUT_WIDTH {
         return 0;
     }
     put_line(out, 0, refusal(1));
-    45
+    OUTPUT_WIDTH
 }

@@ -5,7 +5,7 @@ use native.Mathlib.Omega.{arith}
 use mathlib.Core.Path.{_≡_, refl, ap, _∙_}
 use mathlib.Core.Bool.{cond}
 use mathlib.Core.Option.{some}
-use mathlib.Core.List.{List, [], _∷_, _++_, sum}
+use mathlib.Core.List.{List, [], _∷_, _++_}
 use lib.Dec.{eqb, eqb·suc-zero}
 use lib.ListN.{length, length-append}
 use lib.Seq.{take-at, drop-at}
@@ -14,7 +14,7 @@ use Rattle.calls.specs.declared.Numbers.{Numbers}
 use Rattle.wire.specs.declared.Scan.{Scan}
 use Rattle.wire.specs.declared.Scan.the-variants.{Blank, Digits}
 use Rattle.wire.specs.declared.Field.the-variants.{Number}
-use Rattle.wire.specs.Format.{callColumns, callWidth, answerColumns, digit, column, columns, ended, fieldOf, numbersIn, said, lineRead, digitOf, leftDigit, left, text, textOf, answerText}
+use Rattle.wire.specs.Format.{total, callColumns, callWidth, answerColumns, answerWidth, digit, column, columns, ended, fieldOf, numbersIn, said, lineRead, digitOf, leftDigit, left, text, textOf, answerText}
 use Rattle.wire.proofs.Fields.{columns-append}
 
 -- ---- a number in its columns
@@ -86,8 +86,8 @@ Fits (w ∷ ws) [] = ⊥
 Fits (w ∷ ws) (n ∷ ns) = (0 < w) × (n < 10 ^ w) × Fits ws ns
 
 -- a line is as long as its columns together
-pub text-total : (ws ns : List ℕ) → Fits ws ns → length (textOf ws ns) ≡ sum _+_ 0 ws
-unfolding textOf sum
+pub text-total : (ws ns : List ℕ) → Fits ws ns → length (textOf ws ns) ≡ total ws
+unfolding textOf
 text-total [] [] f = refl
 text-total [] (n ∷ ns) f = absurd f
 text-total (w ∷ ws) [] f = absurd f
@@ -105,7 +105,7 @@ numbers-read (w ∷ ws) (n ∷ ns) f =
 
 -- a call's line, typed as document 01 says, is read as that call
 pub call-read : (ns : List ℕ) → Fits callColumns ns → lineRead (textOf callColumns ns) ≡ said (some ns)
-unfolding lineRead sum
+unfolding lineRead
 call-read ns f = simp (eq-eqb (length (textOf callColumns ns)) callWidth (text-total callColumns ns f), numbers-read callColumns ns f)
 
 -- an answer's line, read, shows the answer's numbers
@@ -114,7 +114,7 @@ pub answer-read : (a : Numbers) → Fits answerColumns (a .number ∷ a .first �
 unfolding answerText
 answer-read a f = numbers-read answerColumns (a .number ∷ a .first ∷ a .second ∷ a .third ∷ []) f
 
--- an output line has 44 bytes before its line feed
-pub answer-long : (a : Numbers) → length (answerText a) ≡ 44
+-- an answer takes the columns of an output line
+pub answer-long : (a : Numbers) → length (answerText a) ≡ answerWidth
 unfolding answerText textOf
 answer-long a = simp (length-append, text-long)

@@ -1,5 +1,6 @@
 -- Laws of reading the numbers of a line, field by field. Assumes nothing.
-use Prim.Native.Nat.{ℕ, zero, suc, _+_, _-_, _*_, _<_}
+use Prim.Native.Nat.{ℕ, zero, suc, _+_, _-_, _≤_, _<_}
+use native.Mathlib.Nat.{add-sub-cancel-left}
 use native.Mathlib.Numerals.{add-one}
 use native.Mathlib.Omega.{arith}
 use mathlib.Core.Path.{_≡_, refl, sym, ap}
@@ -7,26 +8,31 @@ use mathlib.Core.Option.{Option, none, some, Option·map}
 use mathlib.Core.List.{List, [], _∷_, _++_, append-assoc}
 use lib.ListN.{length, take, drop, getD, set, getD-replicate}
 use lib.Seq.{drop-cons, drop-drop, take-suc-set}
+use Rattle.wire.specs.declared.Field.{Field}
 use Rattle.wire.specs.declared.Field.the-variants.{Number}
-use Rattle.wire.specs.Format.{callColumns, fieldOf, withNumber, numbersIn}
+use Rattle.wire.specs.Format.{total, callColumns, fieldOf, withNumber, numbersIn}
 
--- every field but the code has 14 columns
-pub width : (i : ℕ) → i < 6 → (i ≡ 0 → ⊥) → getD callColumns i 0 ≡ 14
-width zero h k = absurd (k refl)
-width (suc i) h k = getD-replicate {A = ℕ} 5 i 14 0 (omega arith)
+-- no field has more columns than a number
+pub narrow : (i : ℕ) → i < 6 → getD callColumns i 0 ≤ 14
+narrow zero h = omega arith
+narrow (suc i) h = let k : i < 5 = omega arith in rw getD-replicate (omega arith)
 
--- where the field after the one at place i begins
-next-begins : (i : ℕ) → i < 6 → 14 * i - 12 + getD callColumns i 0 ≡ 14 * (i + 1) - 12
-next-begins zero h = refl
-next-begins (suc i) h = let w = width (suc i) h (λ e. omega arith) in omega arith
+-- the columns from place i on
+pub total-next : (i : ℕ) → i < 6 → total (drop i callColumns) ≡ getD callColumns i 0 + total (drop (i + 1) callColumns)
+total-next i h = rw (drop-cons callColumns i 0 h, add-one i) refl
+
+-- what the columns from place i on say, where they begin after column `from`
+abbrev pub remaining : List ℕ → ℕ → ℕ → Option (List ℕ)
+remaining line from i = numbersIn (drop i callColumns) (drop from line)
 
 -- reading goes on after the field at place i
-pub numbers-next : (line : List ℕ) (i : ℕ) → i < 6
-    → numbersIn (drop i callColumns) (drop (14 * i - 12) line)
-    ≡ withNumber (fieldOf (take (getD callColumns i 0) (drop (14 * i - 12) line))) (numbersIn (drop (i + 1) callColumns) (drop (14 * (i + 1) - 12) line))
+pub numbers-next : (line : List ℕ) (from i : ℕ) (f : Field) → i < 6
+    → let to = from + getD callColumns i 0 in
+    f ≡ fieldOf (take (to - from) (drop from line)) → remaining line from i ≡ withNumber f (remaining line to (i + 1))
 unfolding numbersIn
-numbers-next line i h =
-    rw (drop-cons callColumns i 0 h, drop-drop (getD callColumns i 0) (14 * i - 12) line, next-begins i h, add-one i) refl
+numbers-next line from i f h e =
+    let w = getD callColumns i 0 in
+    rw (e, add-sub-cancel-left from w, drop-cons callColumns i 0 h, drop-drop w from line, add-one i) refl
 
 -- and ends after the last one
 pub numbers-end : (line : List ℕ) → numbersIn (drop 6 callColumns) line ≡ some []

@@ -5,7 +5,7 @@ use native.Mathlib.Omega.{arith}
 use mathlib.Core.Path.{_≡_, refl, sym, _∙_, subst}
 use mathlib.Core.Bool.{false}
 use mathlib.Core.Option.{Option, none, some}
-use mathlib.Core.List.{List, [], _∷_, _++_, append-nil, append-assoc, sum}
+use mathlib.Core.List.{List, [], _∷_, _++_, append-nil, append-assoc}
 use lib.Dec.{eqb}
 use lib.ListN.{length, take, drop, length-drop, take-append-drop}
 use lib.Seq.{length-take-le}
@@ -16,7 +16,7 @@ use Rattle.wire.specs.declared.Scan.the-variants.{Blank, Digits, Bad}
 use Rattle.wire.specs.declared.Field.{Field}
 use Rattle.wire.specs.declared.Field.the-variants.{Number, NoNumber}
 use Rattle.wire.specs.declared.LineRead.the-variants.{Unreadable}
-use Rattle.wire.specs.Format.{callColumns, callWidth, isDigit, digit, column, columns, soFar, ended, fieldOf, withNumber, numbersIn, said, lineRead, left, text, textOf}
+use Rattle.wire.specs.Format.{total, callColumns, callWidth, isDigit, digit, column, columns, soFar, ended, fieldOf, withNumber, numbersIn, said, lineRead, left, text, textOf}
 use Rattle.wire.proofs.Fields.{digit-range, column-below}
 use Rattle.wire.proofs.RoundTrip.{long-more, Fits}
 
@@ -105,8 +105,8 @@ with-number (Number n) none ns e = let z : _≡_ {A = ℕ} 0 1 = cc in absurd (o
 with-number NoNumber r ns e = let z : _≡_ {A = ℕ} 0 1 = cc in absurd (omega arith)
 
 -- a line whose columns are read as numbers is those numbers' text, and each number fits its columns
-pub numbers-text : (ws line ns : List ℕ) → sum _+_ 0 ws ≡ length line → numbersIn ws line ≡ some ns → (line ≡ textOf ws ns) × Fits ws ns
-unfolding numbersIn textOf sum
+pub numbers-text : (ws line ns : List ℕ) → total ws ≡ length line → numbersIn ws line ≡ some ns → (line ≡ textOf ws ns) × Fits ws ns
+unfolding numbersIn textOf
 numbers-text [] [] [] h e = (refl, tt)
 numbers-text [] [] (n ∷ ns) h e = let z : _≡_ {A = ℕ} 0 1 = cc in absurd (omega arith)
 numbers-text [] (b ∷ line) ns h e = absurd (omega arith)
@@ -127,7 +127,6 @@ pub record Typed (line : List ℕ) : Type 0 where
 
 typed-by : (line : List ℕ) (r : Option (List ℕ)) → length line ≡ callWidth → numbersIn callColumns line ≡ r → lineRead line ≡ said r
     → (lineRead line ≡ Unreadable → ⊥) → Typed line
-unfolding sum
 typed-by line none h e s k = absurd (k s)
 typed-by line (some ns) h e s k =
     let t = numbers-text callColumns line ns (sym h) e in

@@ -20,17 +20,25 @@ use Rattle.wire.specs.declared.LineRead.the-variants.{Opening, Calling, 
 
 -- ---- the columns
 
+abbrev pub total : List ℕ → ℕ
+total [] = 0
+total (w ∷ ws) = w + total ws
+
 -- an input line: a call code in columns 1 to 2 and five numbers of 14 columns
 abbrev pub callColumns : List ℕ
 callColumns = 2 ∷ replicate 5 14
 
 -- so it has 72 bytes before its line feed
 abbrev pub callWidth : ℕ
-callWidth = 72
+callWidth = total callColumns
 
 -- an output line: the answer in 2 columns and three numbers of 14
 abbrev pub answerColumns : List ℕ
 answerColumns = 2 ∷ replicate 3 14
+
+-- so it has 44 bytes before its line feed
+abbrev pub answerWidth : ℕ
+answerWidth = total answerColumns
 
 -- ---- reading
 

@@ -1,14 +1,31 @@
-// The session's lines: an input line to what it says, an answer to its 44 bytes. Document 01, "The session program".
+// The session's lines: an input line to what it says, an answer to its bytes. Document 01, "The session program".
 ghost use mathlib.Core.Path.{_≡_};
 ghost use mathlib.Core.List.{_++_};
-ghost use Prim.Native.Nat.{_-_, _*_, _≤_, _<_};
-ghost use lib.ListN.{length, take, drop, getD};
-ghost use Rattle.wire.specs.Format.{digit as digitAfter, column as columnAfter, soFar, fieldOf, callColumns, numbersIn, rowNumbers, openingOf, saidBy, lineRead, digitOf, leftDigit, text, answerText};
+ghost use Prim.Native.Nat.{_-_, _≤_, _<_};
+ghost use lib.ListN.{length, drop};
+ghost use Rattle.wire.specs.Format.{digit as digitAfter, column as columnAfter, soFar, fieldOf, callColumns, callWidth, answerWidth, numbersIn, rowNumbers, openingOf, saidBy, lineRead, digitOf, leftDigit, text, answerText};
 use calls::Call;
 use calls::CallRead;
 use calls::Numbers;
 use motion::Limits;
 use train::Settings;
+
+// The columns of an input line: a code and five numbers.
+const CALL_COLUMNS: [usize; 6] = [2, 14, 14, 14, 14, 14];
+
+pub const CALL_WIDTH: usize = CALL_COLUMNS[0] + 5 * CALL_COLUMNS[1];
+
+// The columns of an output line: the answer and three numbers.
+const ANSWER_COLUMNS: [usize; 4] = [2, 14, 14, 14];
+
+// Where these three begin.
+const FIRST: usize = ANSWER_COLUMNS[0];
+
+const SECOND: usize = FIRST + ANSWER_COLUMNS[1];
+
+const THIRD: usize = SECOND + ANSWER_COLUMNS[2];
+
+pub const ANSWER_WIDTH: usize = THIRD + ANSWER_COLUMNS[3];
 
 // The columns of a field read so far: spaces, then digits that make a number. Bad: no field begins so.
 pub enum Scan {
@@ -121,33 +138,24 @@ fn said_by(code: u64, a: u64, b: u64, c: u64, d: u64, e: u64) -> LineRead
     LineRead::Calling(call)
 }
 
-// The field at place i of a line: the code, then the numbers.
-fn field_at(line: &[u8], i: usize) -> Field
-    requires { ⌜ (length (now line) ≡ 72) × (i < 6) ⌝ }
-    ensures { λ r. ⌜ r ≡ fieldOf (take (getD callColumns i 0) (drop (14 * i - 12) (now (line .entry)))) ⌝ }
-{
-    if i == 0 {
-        return field_in(&line[..2]);
-    }
-    let to = 14 * i + 2;
-    field_in(&line[to - 14..to])
-}
-
 // The numbers of a line.
 fn numbers_in(line: &[u8]) -> Row
-    requires { ⌜ length (now line) ≡ 72 ⌝ }
+    requires { ⌜ length (now line) ≡ callWidth ⌝ }
     ensures { λ r. ⌜ rowNumbers r ≡ numbersIn callColumns (now (line .entry)) ⌝ }
 {
     let mut numbers = [0u64; 6];
+    let mut from: usize = 0;
     let mut i: usize = 0;
     while i < 6 {
-        let Field::Number(n) = field_at(line, i) else {
+        let to = from + CALL_COLUMNS[i];
+        let Field::Number(n) = field_in(&line[from..to]) else {
             return Row {
                 readable: false,
                 numbers,
             };
         };
         numbers[i] = n;
+        from = to;
         i += 1;
     }
     Row {
@@ -160,7 +168,7 @@ fn numbers_in(line: &[u8]) -> Row
 pub fn read_line(line: &[u8]) -> LineRead
     ensures { λ r. ⌜ r ≡ lineRead (now (line .entry)) ⌝ }
 {
-    if line.len() != 72 {
+    if line.len() != CALL_WIDTH {
         return LineRead::Unreadable;
     }
     let row = numbers_in(line);
@@ -190,17 +198,16 @@ fn left_digit(n: u64) -> u8
     digit_of(n)
 }
 
-// n right-justified in the w columns that end with column `end`. The columns after them stay.
-fn put(line: [u8; 44], end: usize, w: usize, n: u64) -> [u8; 44]
-    requires { ⌜ (0 < w) × (w ≤ end) × (end ≤ 44) ⌝ }
-    ensures { λ r. ⌜ drop (end - w) r ≡ text w n ++ drop end line ⌝ }
+// n right-justified in line[from..to]. The columns after it stay.
+fn put(line: [u8; ANSWER_WIDTH], from: usize, to: usize, n: u64) -> [u8; ANSWER_WIDTH]
+    requires { ⌜ (from < to) × (to ≤ answerWidth) ⌝ }
+    ensures { λ r. ⌜ drop from r ≡ text (to - from) n ++ drop to line ⌝ }
 {
     let mut out = line;
-    let first = end - w;
-    let mut i = end - 1;
+    let mut i = to - 1;
     out[i] = digit_of(n);
     let mut rest = n / 10;
-    while first < i {
+    while from < i {
         i -= 1;
         out[i] = left_digit(rest);
         rest = rest / 10;
@@ -209,12 +216,12 @@ fn put(line: [u8; 44], end: usize, w: usize, n: u64) -> [u8; 44]
 }
 
 // The output line of an answer, without its line feed.
-pub fn render(a: Numbers) -> [u8; 44]
+pub fn render(a: Numbers) -> [u8; ANSWER_WIDTH]
     ensures { λ r. ⌜ r ≡ answerText a ⌝ }
 {
-    let line = [32u8; 44];
-    let line = put(line, 44, 14, a.third);
-    let line = put(line, 30, 14, a.second);
-    let line = put(line, 16, 14, a.first);
-    put(line, 2, 2, a.number)
+    let line = [32u8; ANSWER_WIDTH];
+    let line = put(line, THIRD, ANSWER_WIDTH, a.third);
+    let line = put(line, SECOND, THIRD, a.second);
+    let line = put(line, FIRST, SECOND, a.first);
+    put(line, 0, FIRST, a.number)
 }

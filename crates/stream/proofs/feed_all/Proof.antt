@@ -8,18 +8,19 @@ use lib.ListN.{length, take, drop}
 use lib.Seq.{drop-length}
 use borrow.Author.Needs.{needs}
 use Rattle.stream.specs.declared.Session.{Session}
+use Rattle.stream.specs.Input.{keptWidth, outputWidth}
 use Rattle.stream.proofs.Bytes.{output-all, output-front, output-back, same-further}
 use Rattle.stream.proofs.Lines.{Standing, standing, standing-end, byte-taken, line-taken, piece-taken}
 use Rattle.stream.proofs.feed_all.Statement.{statement}
 use Rattle.stream.proofs.feed_all.Tie as tie
 
--- After i bytes of the piece: `at` bytes of out are written, 45 for a byte at most, and the others are as before. What is still to come
--- leaves the session where the whole piece leaves it.
+-- After i bytes of the piece: `at` bytes of out are written, an output line for a byte at most, and the others are as before. What is
+-- still to come leaves the session where the whole piece leaves it.
 record Feeding (piece before : List ℕ) (from : Standing) (out : List ℕ) (session : Session) (bytes : List ℕ) (count at i : ℕ) : Type 0 where
   within : i ≤ length piece
-  room : at ≤ 45 * i
+  room : at ≤ outputWidth * i
   size : length out ≡ length before
-  line : length bytes ≡ 73
+  line : length bytes ≡ keptWidth
   others : drop at out ≡ drop at before
   stands : from ≡ standing session (take count bytes) (take at out) (drop i piece)
 
@@ -88,17 +89,17 @@ loop-again-2 c =
     let more = p .before .before .before .before .before .before .loop-test .taken in
     let n = r .result .answer in
     let at = k .loop .at in
-    let room : at + 45 ≤ length (k .loop .out) = omega arith in
+    let room : at + outputWidth ≤ length (k .loop .out) = omega arith in
     record {
       within = omega arith;
       room = omega arith;
       size = ap length (p .put-line .ensures) ∙ output-all (k .loop .out) at n room ∙ k .loop .inv .size;
       line = k .loop .inv .line;
-      others = ap (drop (at + 45)) (p .put-line .ensures) ∙ output-back (k .loop .out) at n room ∙ same-further 45 at (k .loop .out) (a .out .now) (k .loop .inv .others);
+      others = ap (drop (at + outputWidth)) (p .put-line .ensures) ∙ output-back (k .loop .out) at n room ∙ same-further outputWidth at (k .loop .out) (a .out .now) (k .loop .inv .others);
       stands =
           k .loop .inv .stands
           ∙ line-taken (k .loop .session) (take (k .loop .count) (k .loop .bytes)) (take at (k .loop .out)) (a .piece .now) (k .loop .i) more (r .result) _
-          (p .before .before .before .before .if1 .left) (r .ensures) (ap (take (at + 45)) (p .put-line .ensures) ∙ output-front (k .loop .out) at n room);
+          (p .before .before .before .before .if1 .left) (r .ensures) (ap (take (at + outputWidth)) (p .put-line .ensures) ∙ output-front (k .loop .out) at n room);
     }
 
 same-length : tie.Need-same-length Inv-loop μ-loop

@@ -4,6 +4,7 @@ use mathlib.Core.Path.{_≡_, refl, sym, _∙_}
 use lib.ListN.{length}
 use borrow.Author.Needs.{needs}
 use Rattle.calls.specs.Answers.{numbers}
+use Rattle.stream.specs.Input.{keptWidth}
 use Rattle.stream.proofs.Bytes.{output-long, output-first, none-begun, no-room, line-begun}
 use Rattle.stream.proofs.finish.Statement.{statement}
 use Rattle.stream.proofs.finish.Tie as tie
@@ -29,7 +30,7 @@ put-line-requires c κs = search needs
 same-length : tie.Need-same-length
 same-length c = search needs
 
-long : (c : tie.Start) → length (c .args .x .bytes) ≡ 73
+long : (c : tie.Start) → length (c .args .x .bytes) ≡ keptWidth
 long c = search needs
 
 returns-3 : tie.Need-returns-3

@@ -7,16 +7,17 @@ use mathlib.Core.List.{List, [], _∷_, _++_}
 use lib.ListN.{length, getD, set, length-set}
 use lib.Seq.{paste, paste-zero}
 use borrow.Author.Needs.{needs}
-use Rattle.stream.specs.Input.{outputLine}
+use Rattle.wire.specs.Format.{answerWidth}
+use Rattle.stream.specs.Input.{outputLine, outputWidth}
 use Rattle.stream.proofs.Bytes.{pasted-byte, pasted-feed}
 use Rattle.stream.proofs.put_line.Statement.{statement}
 use Rattle.stream.proofs.put_line.Tie as tie
 
 abbrev Inv-loop : tie.InvT-loop
-Inv-loop out₀ at line i₀ out i = (i ≤ 44) × (length out ≡ length out₀) × (out ≡ paste out₀ at (line ++ (10 ∷ [])) i)
+Inv-loop out₀ at line i₀ out i = (i ≤ answerWidth) × (length out ≡ length out₀) × (out ≡ paste out₀ at (line ++ (10 ∷ [])) i)
 
 abbrev μ-loop : tie.MeasureT-loop
-μ-loop out₀ at line i₀ out i = 44 - i
+μ-loop out₀ at line i₀ out i = answerWidth - i
 
 render-requires : tie.Need-render-requires Inv-loop μ-loop
 render-requires c κs = search needs
@@ -46,7 +47,7 @@ loop-again c =
     let s = c .before in
     let a = s .before .before .before .args in
     let line = s .before .render .result in
-    let whole : length line ≡ 44 = search needs in (
+    let whole : length line ≡ answerWidth = search needs in (
       omega arith,
       length-set (s .loop .out) (a .at + s .loop .i) _ ∙ s .loop .inv .1,
       ap (λ (l : List ℕ). set l (a .at + s .loop .i) (getD line (s .loop .i) 0)) (s .loop .inv .2)
@@ -62,7 +63,7 @@ slice-write-out-2 c = omega arith
 same-length : tie.Need-same-length Inv-loop μ-loop
 same-length c =
     let s = c .before in
-    length-set (s .loop .out) (s .before .before .before .args .at + 44) 10 ∙ s .loop .inv .1
+    length-set (s .loop .out) (s .before .before .before .args .at + answerWidth) 10 ∙ s .loop .inv .1
 
 returns : tie.Need-returns Inv-loop μ-loop
 unfolding outputLine
@@ -70,11 +71,11 @@ returns c =
     let s = c .before in
     let a = s .before .before .before .args in
     let line = s .before .render .result in
-    let whole : length line ≡ 44 = search needs in
-    let end : s .loop .i ≡ 44 = omega arith in
-    ap (λ (l : List ℕ). set l (a .at + 44) 10) (rw end at (s .loop .inv .2))
+    let whole : length line ≡ answerWidth = search needs in
+    let end : s .loop .i ≡ answerWidth = omega arith in
+    ap (λ (l : List ℕ). set l (a .at + answerWidth) 10) (rw end at (s .loop .inv .2))
     ∙ pasted-feed (a .out .now) line (a .at) whole (s .before .before .before .pre)
-    ∙ ap (λ (l : List ℕ). paste (a .out .now) (a .at) (l ++ (10 ∷ [])) 45) (s .before .render .ensures)
+    ∙ ap (λ (l : List ℕ). paste (a .out .now) (a .at) (l ++ (10 ∷ [])) outputWidth) (s .before .render .ensures)
 
 pub put-line-spec : {M : Type 1} → statement M
 put-line-spec =

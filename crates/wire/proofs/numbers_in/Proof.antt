@@ -1,47 +1,71 @@
 -- `wire::numbers_in` meets its contract.
 -- Assumes nothing.
-use Prim.Native.Nat.{ℕ, _+_, _-_, _*_, _≤_}
+use Prim.Native.Nat.{ℕ, _+_, _-_, _≤_}
 use native.Mathlib.Omega.{arith}
-use mathlib.Core.Path.{_≡_, sym, ap, _∙_}
-use lib.ListN.{length, take, drop}
+use mathlib.Core.Path.{_≡_, refl, sym, ap, _∙_}
+use lib.ListN.{length, take, drop, getD, length-take}
 use borrow.Author.Needs.{needs}
 use lib.Seq.{take-all}
 use mathlib.Core.List.{List, append-nil}
 use mathlib.Core.Option.{Option}
 use Rattle.wire.specs.declared.Field.{Field}
-use Rattle.wire.specs.Format.{callColumns, withNumber, numbersIn}
-use Rattle.wire.proofs.Rows.{numbers-next, numbers-end, before, before-more, before-none}
+use Rattle.wire.specs.Format.{total, callColumns, callWidth, withNumber, numbersIn}
+use Rattle.wire.proofs.Rows.{narrow, total-next, remaining, numbers-next, numbers-end, before, before-more, before-none}
 use Rattle.wire.proofs.numbers_in.Statement.{statement}
 use Rattle.wire.proofs.numbers_in.Tie as tie
 
 abbrev Inv-loop : tie.InvT-loop
-Inv-loop line numbers₀ i₀ numbers i =
-    (i ≤ 6) × (length numbers ≡ 6)
-    × (numbersIn callColumns line ≡ before (take i numbers) (numbersIn (drop i callColumns) (drop (14 * i - 12) line)))
+Inv-loop line numbers₀ from₀ i₀ numbers from i =
+    (i ≤ 6) × (length numbers ≡ 6) × (from + total (drop i callColumns) ≡ callWidth)
+    × (numbersIn callColumns line ≡ before (take i numbers) (remaining line from i))
 
 abbrev μ-loop : tie.MeasureT-loop
-μ-loop line numbers₀ i₀ numbers i = 6 - i
+μ-loop line numbers₀ from₀ i₀ numbers from i = 6 - i
 
-abbrev left : List ℕ → ℕ → Option (List ℕ)
-left line i = numbersIn (drop i callColumns) (drop (14 * i - 12) line)
+-- where the field at place i ends
+abbrev to : tie.At-loop Inv-loop μ-loop → ℕ
+to s = s .loop .from + getD callColumns (s .loop .i) 0
 
--- with the field at the next place read
-next : (c : tie.After-field-at Inv-loop μ-loop) (f : Field) → c .field-at .result ≡ f
-    → numbersIn callColumns (c .before .before .before .before .args .line .now)
-    ≡ before (take (c .before .before .loop .i) (c .before .before .loop .numbers)) (withNumber f (left (c .before .before .before .before .args .line .now) (c .before .before .loop .i + 1)))
-next c f e =
-    let s = c .before .before in
+within : (c : tie.In-loop Inv-loop μ-loop) → to (c .before) ≤ callWidth
+within c = omega (arith, total-next (c .before .loop .i) (c .loop-test .taken))
+
+-- with that field read
+next : (c : tie.After-field-in Inv-loop μ-loop) (f : Field) → c .field-in .result ≡ f
+    → let s = c .before .before .before in
     let line = s .before .before .args .line .now in
-    let i = s .loop .i in
-    s .loop .inv .2
-    ∙ ap (before (take i (s .loop .numbers)))
-    (numbers-next line i (c .before .loop-test .taken) ∙ ap (λ (g : Field). withNumber g (left line (i + 1))) (sym (c .field-at .ensures) ∙ e))
+    numbersIn callColumns line ≡ before (take (s .loop .i) (s .loop .numbers)) (withNumber f (remaining line (to s) (s .loop .i + 1)))
+next c f e =
+    let s = c .before .before .before in
+    let line = s .before .before .args .line .now in
+    s .loop .inv .3
+    ∙ ap (before (take (s .loop .i) (s .loop .numbers)))
+    (numbers-next line (s .loop .from) (s .loop .i) f (c .before .before .loop-test .taken) (sym e ∙ c .field-in .ensures))
 
 loop-holds : tie.Need-loop-holds Inv-loop μ-loop
-loop-holds c = (omega arith, search needs, before-none (numbersIn callColumns (c .before .args .line .now)))
+loop-holds c = (omega arith, search needs, refl, before-none (numbersIn callColumns (c .before .args .line .now)))
 
-field-at-requires : tie.Need-field-at-requires Inv-loop μ-loop
-field-at-requires c κs = search needs
+mul-to : tie.Need-mul-to Inv-loop μ-loop
+mul-to c = search needs
+
+array-read-to : tie.Need-array-read-to Inv-loop μ-loop
+array-read-to c = search needs
+
+add-to : tie.Need-add-to Inv-loop μ-loop
+add-to c = omega (arith, within c)
+
+sub-field-in : tie.Need-sub-field-in Inv-loop μ-loop
+sub-field-in c = search needs
+
+part-field-in-start : tie.Need-part-field-in-start Inv-loop μ-loop
+part-field-in-start c = search needs
+
+part-field-in-end : tie.Need-part-field-in-end Inv-loop μ-loop
+part-field-in-end c = omega (arith, within c)
+
+field-in-requires : tie.Need-field-in-requires Inv-loop μ-loop
+field-in-requires c κs =
+    let s = c .before in
+    simp length-take (omega (arith, narrow (s .before .loop .i) (s .loop-test .taken)))
 
 enum-known-n : tie.Need-enum-known-n Inv-loop μ-loop
 enum-known-n c = search needs
@@ -66,21 +90,21 @@ loop-less c = omega arith
 
 loop-again : tie.Need-loop-again Inv-loop μ-loop
 loop-again c =
-    let s = c .before .before .before .before .before in
+    let s = c .before .before .before .before .before .before in
     let line = s .before .before .args .line .now in
     let n = c .before .n .given .0 .0 in (
       omega arith,
       search needs,
-      next (c .before .before .before) _ (c .before .n .given .1) ∙ before-more (s .loop .numbers) (s .loop .i) n (left line (s .loop .i + 1)) (omega arith),
+      omega (arith, total-next (s .loop .i) (omega arith)),
+      next (c .before .before .before) _ (c .before .n .given .1) ∙ before-more (s .loop .numbers) (s .loop .i) n (remaining line (to s) (s .loop .i + 1)) (omega arith),
     )
 
 returns-2 : tie.Need-returns-2 Inv-loop μ-loop
 returns-2 c =
     let s = c .before in
-    let line = s .before .before .args .line .now in
     let ns = s .loop .numbers in
     let last : s .loop .i ≡ 6 = omega arith in
-    let all = rw (last, numbers-end, append-nil, take-all 6 ns (omega arith)) at (s .loop .inv .2) in
+    let all = rw (last, numbers-end, append-nil, take-all 6 ns (omega arith)) at (s .loop .inv .3) in
     sym all
 
 pub numbers-in-spec : {M : Type 1} → statement M
@@ -90,7 +114,13 @@ numbers-in-spec =
     Inv-loop
     μ-loop
     loop-holds
-    field-at-requires
+    mul-to
+    array-read-to
+    add-to
+    sub-field-in
+    part-field-in-start
+    part-field-in-end
+    field-in-requires
     enum-known-n
     enum-told
     returns

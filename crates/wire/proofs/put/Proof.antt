@@ -6,21 +6,18 @@ use mathlib.Core.Path.{_≡_, refl, sym, ap, _∙_}
 use mathlib.Core.List.{_++_}
 use lib.ListN.{length, drop}
 use borrow.Author.Needs.{needs}
-use Rattle.wire.specs.Format.{left, text}
+use Rattle.wire.specs.Format.{answerWidth, left, text}
 use Rattle.wire.proofs.Texts.{text-last, left-next, left-none}
 use Rattle.wire.proofs.put.Statement.{statement}
 use Rattle.wire.proofs.put.Tie as tie
 
 abbrev Inv-loop : tie.InvT-loop
-Inv-loop end w n out₀ first i₀ rest₀ out i rest =
-    (first ≤ i) × (i < 44) × (length out ≡ 44)
-    × (left (i₀ - first) rest₀ ++ drop i₀ out₀ ≡ left (i - first) rest ++ drop i out)
+Inv-loop from to n out₀ i₀ rest₀ out i rest =
+    (from ≤ i) × (i < answerWidth) × (length out ≡ answerWidth)
+    × (left (i₀ - from) rest₀ ++ drop i₀ out₀ ≡ left (i - from) rest ++ drop i out)
 
 abbrev μ-loop : tie.MeasureT-loop
-μ-loop end w n out₀ first i₀ rest₀ out i rest = i - first
-
-sub-first : tie.Need-sub-first Inv-loop μ-loop
-sub-first c = omega arith
+μ-loop from to n out₀ i₀ rest₀ out i rest = i - from
 
 sub-i : tie.Need-sub-i Inv-loop μ-loop
 sub-i c = omega arith
@@ -51,7 +48,7 @@ loop-again c =
     let s = c .before .before in
     let a = s .before .before .args in
     let i : ℕ = s .loop .i in
-    let f : ℕ = a .end - a .w in
+    let f : ℕ = a .from in
     let w : i - f ≡ suc (i - 1 - f) = omega arith in
     let j : i ≡ suc (i - 1) = omega arith in (
       omega arith,
@@ -69,17 +66,17 @@ returns c =
     let s = c .before in
     let b = s .before in
     let a = b .before .args in
-    let first : s .loop .i ≡ a .end - a .w = omega arith in
-    let none : s .loop .i - (a .end - a .w) ≡ 0 = omega arith in
-    let columns : a .end - 1 - (a .end - a .w) ≡ a .w - 1 = omega arith in
-    let long : length (a .line) ≡ 44 = search needs in
-    let w : a .w ≡ suc (a .w - 1) = omega arith in
-    let j : a .end ≡ suc (a .end - 1) = omega arith in
+    let f : ℕ = a .from in
+    let first : s .loop .i ≡ f = omega arith in
+    let none : s .loop .i - f ≡ 0 = omega arith in
+    let long : length (a .line) ≡ answerWidth = search needs in
+    let w : a .to - f ≡ suc (a .to - 1 - f) = omega arith in
+    let j : a .to ≡ suc (a .to - 1) = omega arith in
     let last =
-    ap (λ (k : ℕ). text k (a .n) ++ drop (a .end) (a .line)) w
-    ∙ ap (λ (k : ℕ). text (suc (a .w - 1)) (a .n) ++ drop k (a .line)) j
-    ∙ text-last (a .line) (a .w - 1) (a .end - 1) (a .n) (omega arith) in
-    let rest = rw (b .digit-of .ensures, columns) at (s .loop .inv .3) in
+    ap (λ (k : ℕ). text k (a .n) ++ drop (a .to) (a .line)) w
+    ∙ ap (λ (k : ℕ). text (suc (a .to - 1 - f)) (a .n) ++ drop k (a .line)) j
+    ∙ text-last (a .line) (a .to - 1 - f) (a .to - 1) (a .n) (omega arith) in
+    let rest = rw (b .digit-of .ensures) at (s .loop .inv .3) in
     sym (last ∙ (rw (none, left-none, first) at rest))
 
 pub put-spec : {M : Type 1} → statement M
@@ -88,7 +85,6 @@ put-spec =
     (tie.spec
     Inv-loop
     μ-loop
-    sub-first
     sub-i
     digit-of-requires
     array-write-out
