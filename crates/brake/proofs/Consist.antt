@@ -8,28 +8,21 @@ use native.Mathlib.Decide.{ℕ-discrete}
 use native.Mathlib.Nat.{mul-le-mul, le-div-iff-mul-le, div-le-self}
 use native.Mathlib.Omega.{arith}
 use lib.Dec.{T, leb, lit≤, lit<}
-use borrow.Author.Tests.{ne-eqb, le-leb, lt-leb, leb-true}
+use borrow.Author.Tests.{ne-eqb}
 use Rattle.brake.specs.declared.Figures.{Figures}
 use Rattle.brake.specs.declared.CarFound.{CarFound}
 use Rattle.brake.specs.declared.CarFound.the-variants.{Rated, NoClass}
 use Rattle.brake.specs.declared.FiguresFound.the-variants.{Given, NoFigures}
-use Rattle.brake.specs.Consist.{greatestLength, greatestFull, Sound, lengthInRange, carOf, fullBrake, applicationTime, applicationCycles, brakeCycles, figuresWith, figuresBy, figuresOf}
-use Rattle.brake.proofs.Tests.{by-test, both}
-use Rattle.brake.proofs.Rounding.{ceil-le, ceil-positive}
+use Rattle.brake.specs.Consist.{greatestFull, Sound, carOf, fullBrake, applicationTime, applicationCycles, brakeCycles, figuresWith, figuresBy, figuresOf}
+use Rattle.logic.proofs.Tests.{by-test}
+use Rattle.logic.proofs.Rounding.{ceil-le, ceil-positive}
+use Rattle.ranges.specs.Ranges.{greatestLength, lengthInRange}
+use Rattle.ranges.proofs.Ranges.{between-both}
 
 -- ---- length
 
 pub length-within : (l : ℕ) → lengthInRange l ≡ true → l ≤ greatestLength
-unfolding lengthInRange
-length-within l e = leb-true l greatestLength (both (leb 1 l) (leb l greatestLength) e .1)
-
-pub length-short : (l : ℕ) → l < 1 → lengthInRange l ≡ false
-unfolding lengthInRange
-length-short l h = rw (lt-leb 1 l h, lengthInRange)
-
-pub length-long : (l : ℕ) → 1 ≤ l → lengthInRange l ≡ leb l greatestLength
-unfolding lengthInRange
-length-long l h = rw (le-leb 1 l h, lengthInRange)
+length-within l e = between-both 1 greatestLength l e .1
 
 -- ---- load class
 

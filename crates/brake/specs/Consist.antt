@@ -1,20 +1,14 @@
 -- Document 01, "Line and consist": the brake figures of a consist, from its load class and its length in feet.
 use Prim.Native.Nat.{ℕ, _+_, _*_, _/_, _≤_}
-use mathlib.Core.Bool.{Bool, cond, _&&_}
-use lib.Dec.{leb, eqb}
+use mathlib.Core.Bool.{cond}
+use lib.Dec.{eqb}
 use Rattle.brake.specs.declared.Figures.{Figures}
 use Rattle.brake.specs.declared.CarFound.{CarFound}
 use Rattle.brake.specs.declared.CarFound.the-variants.{Rated, NoClass}
 use Rattle.brake.specs.declared.FiguresFound.{FiguresFound}
 use Rattle.brake.specs.declared.FiguresFound.the-variants.{Given, NoFigures}
-use Rattle.brake.specs.Rounding.{ceilDiv}
-
--- length: 1 to 10,000 ft
-abbrev pub greatestLength : ℕ
-greatestLength = 10000
-
-unfoldable pub lengthInRange : ℕ → Bool
-lengthInRange l = leb 1 l && leb l greatestLength
+use Rattle.logic.specs.Rounding.{ceilDiv}
+use Rattle.ranges.specs.Ranges.{lengthInRange}
 
 -- the load class alone decides force (lbf) and mass (lb) per car: 1 loaded, 2 empty, 3 unknown
 unfoldable pub carOf : ℕ → CarFound
@@ -58,6 +52,8 @@ figuresOf load l = cond (lengthInRange l) (figuresBy (carOf load) l) NoFigures
 abbrev pub answerTo : FiguresFound → ℕ
 answerTo (Given k) = 0
 answerTo NoFigures = 4
+
+-- ---- words of inner contracts
 
 -- full brake of class 2, the highest of the three
 abbrev pub greatestFull : ℕ

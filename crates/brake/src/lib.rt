@@ -1,6 +1,9 @@
 // The brake figures of a consist: document 01, "Line and consist".
 ghost use mathlib.Core.Path.{_≡_};
-ghost use Rattle.brake.specs.Consist.{lengthInRange, carOf, applicationTime, brakeCycles, figuresOf};
+ghost use Rattle.brake.specs.Consist.{carOf, applicationTime, brakeCycles, figuresOf};
+
+// Full brake of class 2, the highest of the three.
+pub const GREATEST_FULL: u64 = 162039;
 
 // Full brake B and growth j: the speed that one cycle takes off, and what the next cycle takes off on top, in µm/s.
 pub struct Figures {
@@ -20,18 +23,8 @@ pub enum FiguresFound {
     NoFigures,
 }
 
-// Length: 1 to 10,000 ft.
-pub fn length_in_range(length: u64) -> bool
-    ensures { λ r. ⌜ r ≡ lengthInRange length ⌝ }
-{
-    if length < 1 {
-        return false;
-    }
-    length <= 10000
-}
-
 // The load class alone decides force and mass. A car of unknown load is taken as loaded.
-pub fn car_of(load: u64) -> CarFound
+fn car_of(load: u64) -> CarFound
     ensures { λ r. ⌜ r ≡ carOf load ⌝ }
 {
     match load {
@@ -61,7 +54,7 @@ fn brake_cycles(length: u16) -> u64
 pub fn figures_of(load: u64, length: u64) -> FiguresFound
     ensures { λ r. ⌜ r ≡ figuresOf load length ⌝ }
 {
-    if !length_in_range(length) {
+    if !ranges::length_in_range(length) {
         return FiguresFound::NoFigures;
     }
     match car_of(load) {

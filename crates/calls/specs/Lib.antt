@@ -1,2 +1,3 @@
 pub mod Answers
-pub mod Codes
+pub mod Checks
+pub mod Requests

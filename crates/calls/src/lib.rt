@@ -1,17 +1,89 @@
-// Calls and answers, and both in numbers: document 01, "What is turned down" and "The session program".
+// What is asked and what is answered, and both in numbers: document 01, "Authorities", "What is turned down" and "The session
+// program".
 ghost use mathlib.Core.Path.{_≡_};
-ghost use Rattle.motion.specs.Orders.{orderNumber, orderCap};
 ghost use Rattle.calls.specs.Answers.{refusalNumber, numbersOf};
-ghost use Rattle.calls.specs.Codes.{ifZero, callOf};
+ghost use Rattle.calls.specs.Requests.{zeroFrom, readAs, requestOf};
 use motion::Order;
-use train::Act;
-use train::Refusal;
 
-// A call on a table: enter (id, head, length, load class, starting number), an act of the train with an id, take off (id).
+// ---- what is asked
+
+// Open: line end, safety distance, speed ceiling V, greatest traction A.
+pub struct Opening {
+    pub end: u64,
+    pub safety: u64,
+    pub ceiling: u64,
+    pub traction: u64,
+}
+
+// Enter: id, head, length in feet, load class, starting request number.
+pub struct Entry {
+    pub id: u64,
+    pub head: u64,
+    pub length: u64,
+    pub load: u64,
+    pub start: u64,
+}
+
+// Report: head and speed at the end of a cycle.
+pub struct Reading {
+    pub head: u64,
+    pub speed: u64,
+}
+
+// Extend: request number, and the length of track that is asked for.
+pub struct Asked {
+    pub number: u64,
+    pub length: u64,
+}
+
+// A call that names a train on the line and leaves it there. Call back names a place.
+pub enum Act {
+    Report(Reading),
+    Extend(Asked),
+    CallBack(u64),
+    Hold,
+    Lift,
+}
+
+// A call on a table: enter, an act of the train with an id, take off (id).
 pub enum Call {
-    Enter(u64, u64, u64, u64, u64),
+    Enter(Entry),
     Own(u64, Act),
     TakeOff(u64),
+}
+
+// What a line asks: a new table, or a call on the one there is.
+pub enum Request {
+    Open(Opening),
+    OnTable(Call),
+}
+
+// A row of numbers, read: some rows ask nothing.
+pub enum RequestRead {
+    Read(Request),
+    Unreadable,
+}
+
+// Numbers in a row: the call code and five more.
+pub const ROW: usize = 6;
+
+// ---- what is answered
+
+// What is turned down.
+pub enum Refusal {
+    BadSetting,
+    BadEntry,
+    OnLine,
+    LineFull,
+    BadHead,
+    NoTrain,
+    NotAllowed,
+    BadRequest,
+    OldNumber,
+    OtherLength,
+    NoTrack,
+    BadPlace,
+    NotLeaving,
 }
 
 // The answer to a call. Entered: B, j and end. Ordered: the order and its reach. Extended: the end, and whether the request
@@ -32,13 +104,7 @@ pub struct Numbers {
     pub third: u64,
 }
 
-// A call in numbers, read: some numbers are no call.
-pub enum CallRead {
-    Read(Call),
-    Unreadable,
-}
-
-// ---- answers
+// ---- answers in numbers
 
 fn refusal_number(r: Refusal) -> u64
     ensures { λ n. ⌜ n ≡ refusalNumber r ⌝ }
@@ -60,24 +126,6 @@ fn refusal_number(r: Refusal) -> u64
     }
 }
 
-fn order_number(o: Order) -> u64
-    ensures { λ r. ⌜ r ≡ orderNumber o ⌝ }
-{
-    match o {
-        Order::Drive(_) => 1,
-        Order::Brake => 2,
-    }
-}
-
-fn order_cap(o: Order) -> u64
-    ensures { λ r. ⌜ r ≡ orderCap o ⌝ }
-{
-    match o {
-        Order::Drive(c) => c,
-        Order::Brake => 0,
-    }
-}
-
 // Document 01's number of an answer and its three values.
 pub fn numbers_of(a: Answer) -> Numbers
     ensures { λ r. ⌜ r ≡ numbersOf a ⌝ }
@@ -91,8 +139,8 @@ pub fn numbers_of(a: Answer) -> Numbers
         },
         Answer::Ordered(o, reach) => Numbers {
             number: 0,
-            first: order_number(o),
-            second: order_cap(o),
+            first: motion::order_number(o),
+            second: motion::order_cap(o),
             third: reach,
         },
         Answer::Extended(end, repeat) => Numbers {
@@ -116,39 +164,84 @@ pub fn numbers_of(a: Answer) -> Numbers
     }
 }
 
-// ---- calls in numbers
+// ---- requests in numbers
 
-// Unused numbers are 0.
-fn if_zero(b: u64, c: u64, d: u64, e: u64, call: Call) -> CallRead
-    ensures { λ r. ⌜ r ≡ ifZero b c d e call ⌝ }
+// Whether the numbers from place n on are 0.
+fn zero_from(row: [u64; ROW], n: usize) -> bool
+    ensures { λ r. ⌜ r ≡ zeroFrom n row ⌝ }
 {
-    if b != 0 {
-        return CallRead::Unreadable;
+    let mut i = n;
+    while i < ROW {
+        if row[i] != 0 {
+            return false;
+        }
+        i += 1;
     }
-    if c != 0 {
-        return CallRead::Unreadable;
-    }
-    if d != 0 {
-        return CallRead::Unreadable;
-    }
-    if e != 0 {
-        return CallRead::Unreadable;
-    }
-    CallRead::Read(call)
+    true
 }
 
-// The call with this code and these numbers. Open, code 1, is no call on a table.
-pub fn call_of(code: u64, a: u64, b: u64, c: u64, d: u64, e: u64) -> CallRead
-    ensures { λ r. ⌜ r ≡ callOf code a b c d e ⌝ }
+// A request that uses the numbers before place n: the unused ones are 0.
+fn read_as(row: [u64; ROW], n: usize, r: Request) -> RequestRead
+    ensures { λ o. ⌜ o ≡ readAs n row r ⌝ }
 {
+    if zero_from(row, n) {
+        return RequestRead::Read(r);
+    }
+    RequestRead::Unreadable
+}
+
+// What a row of numbers asks, its code first.
+pub fn request_of(row: [u64; ROW]) -> RequestRead
+    ensures { λ r. ⌜ r ≡ requestOf row ⌝ }
+{
+    let code = row[0];
+    let a = row[1];
+    let b = row[2];
+    let c = row[3];
+    let d = row[4];
+    let e = row[5];
     match code {
-        2 => CallRead::Read(Call::Enter(a, b, c, d, e)),
-        3 => if_zero(0, 0, d, e, Call::Own(a, Act::Report(b, c))),
-        4 => if_zero(0, 0, d, e, Call::Own(a, Act::Extend(b, c))),
-        5 => if_zero(0, c, d, e, Call::Own(a, Act::CallBack(b))),
-        6 => if_zero(b, c, d, e, Call::Own(a, Act::Hold)),
-        7 => if_zero(b, c, d, e, Call::Own(a, Act::Lift)),
-        8 => if_zero(b, c, d, e, Call::TakeOff(a)),
-        _ => CallRead::Unreadable,
+        1 => read_as(
+            row,
+            5,
+            Request::Open(Opening {
+                end: a,
+                safety: b,
+                ceiling: c,
+                traction: d,
+            }),
+        ),
+        2 => read_as(
+            row,
+            6,
+            Request::OnTable(Call::Enter(Entry {
+                id: a,
+                head: b,
+                length: c,
+                load: d,
+                start: e,
+            })),
+        ),
+        3 => read_as(
+            row,
+            4,
+            Request::OnTable(Call::Own(a, Act::Report(Reading { head: b, speed: c }))),
+        ),
+        4 => read_as(
+            row,
+            4,
+            Request::OnTable(Call::Own(
+                a,
+                Act::Extend(Asked {
+                    number: b,
+                    length: c,
+                }),
+            )),
+        ),
+        5 => read_as(row, 3, Request::OnTable(Call::Own(a, Act::CallBack(b)))),
+        6 => read_as(row, 2, Request::OnTable(Call::Own(a, Act::Hold))),
+        7 => read_as(row, 2, Request::OnTable(Call::Own(a, Act::Lift))),
+        8 => read_as(row, 2, Request::OnTable(Call::TakeOff(a))),
+        _ => RequestRead::Unreadable,
     }
 }

@@ -7,83 +7,90 @@ use native.Mathlib.Omega.{arith}
 use lib.ListN.{set}
 use lib.Seq.{set-getD}
 use borrow.Author.Tests.{le-leb, lt-leb, eq-eqb, ne-eqb}
+use Rattle.logic.proofs.Tests.{by-test}
+use Rattle.ranges.specs.Ranges.{idInRange, startInRange}
 use Rattle.brake.specs.declared.Figures.{Figures}
 use Rattle.brake.specs.declared.FiguresFound.the-variants.{Given, NoFigures}
-use Rattle.brake.specs.Consist.{figuresOf}
-use Rattle.brake.proofs.Tests.{by-test}
-use Rattle.train.specs.declared.Settings.{Settings}
+use Rattle.calls.specs.declared.Opening.{Opening}
+use Rattle.calls.specs.declared.Entry.{Entry}
+use Rattle.calls.specs.declared.Reading.{Reading}
+use Rattle.calls.specs.declared.Asked.{Asked}
+use Rattle.calls.specs.declared.Act.{Act}
+use Rattle.calls.specs.declared.Act.the-variants.{Report, Extend, CallBack, Hold, Lift}
+use Rattle.calls.specs.declared.Call.the-variants.{Enter, Own, TakeOff}
+use Rattle.calls.specs.declared.Refusal.the-variants.{BadSetting, BadEntry, OnLine, LineFull, BadHead, NoTrain, NotAllowed, BadRequest, OldNumber, OtherLength, NoTrack, BadPlace, NotLeaving}
+use Rattle.calls.specs.declared.Answer.the-variants.{Entered, Ordered, Extended, Done}
+use Rattle.calls.specs.Checks.{firstOf}
+use Rattle.train.specs.declared.Authority.{Authority}
 use Rattle.train.specs.declared.Train.{Train}
+use Rattle.train.specs.Ranges.{settingsInRange, settingsOf, requestInRange}
+use Rattle.train.specs.Record.{figuresFor, entering, authorised}
+use Rattle.train.specs.Track.{stepsOf, withinLimit}
+use Rattle.train.specs.Report.{reachOf, reported, reportAllowed}
+use Rattle.train.specs.Acts.{isRepeat, isOld, granted, calledBack, callBackAllowed, holding, acted, mayLeave}
+use Rattle.train.proofs.Acts.{acted-report, acted-repeat, acted-new, acted-call-back, acted-hold, acted-lift}
 use Rattle.table.specs.declared.Table.{Table}
 use Rattle.table.specs.declared.Found.the-variants.{At, Nothing}
-use Rattle.train.specs.declared.Act.{Act}
-use Rattle.train.specs.declared.Act.the-variants.{Report, Extend, CallBack, Hold, Lift}
-use Rattle.calls.specs.declared.Call.the-variants.{Enter, Own, TakeOff}
-use Rattle.train.specs.declared.Refusal.the-variants.{BadSetting, BadEntry, OnLine, LineFull, BadHead, NoTrain, NotAllowed, BadRequest, OldNumber, OtherLength, NoTrack, BadPlace, NotLeaving}
-use Rattle.calls.specs.declared.Answer.the-variants.{Entered, Ordered, Extended, Done}
+use Rattle.table.specs.Table.{blankTrain, places, emptyTable, findOf, trainAt, limitAt, withTrain, withLast, withoutFirst}
 use Rattle.line.specs.declared.Outcome.{Outcome}
-use Rattle.train.specs.Ranges.{settingsInRange, idInRange, startInRange, requestInRange}
-use Rattle.table.specs.Table.{blankTrain, places, emptyTable, findOf, trainAt, aheadOf, withTrain, withLast, withoutFirst}
-use Rattle.train.specs.Report.{reachOf, reported, reportAllowed}
-use Rattle.train.proofs.Acts.{acted-report, acted-repeat, acted-new, acted-call-back, acted-hold, acted-lift}
-use Rattle.train.specs.Acts.{stepsOf, withinLimit, entering, authorised, isRepeat, isOld, calledBack, callBackAllowed, marked, acted, mayLeave}
-use Rattle.train.specs.Checks.{firstOf}
-use Rattle.line.specs.Step.{outcome, refused, noSettings, openStep, enterStep, actStep, ownStep, takeOffStep, step}
+use Rattle.line.specs.Step.{outcome, refused, noTable, openStep, enterStep, actStep, ownStep, takeOffStep, step}
 
 -- ---- open
 
-pub open-taken : (σ : Settings) → settingsInRange σ ≡ true → openStep σ ≡ outcome Done (emptyTable σ)
+pub open-taken : (o : Opening) → settingsInRange o ≡ true → openStep o ≡ outcome Done (emptyTable (settingsOf o))
 unfolding openStep
-open-taken σ e = rw (e, openStep)
+open-taken o e = rw (e, openStep)
 
-pub open-refused : (σ : Settings) → settingsInRange σ ≡ false → openStep σ ≡ refused (emptyTable noSettings) BadSetting
+pub open-refused : (o : Opening) → settingsInRange o ≡ false → openStep o ≡ refused noTable BadSetting
 unfolding openStep
-open-refused σ e = rw (e, openStep)
+open-refused o e = rw (e, openStep)
 
 -- what an accepted opening has passed, and made
-pub open-made : (σ : Settings) (t : Table) → openStep σ ≡ outcome Done t → (settingsInRange σ ≡ true) × (t ≡ emptyTable σ)
-open-made σ t opened =
-    by-test (settingsInRange σ)
-    (λ e. (e, ap (λ (o : Outcome). o .table) (sym opened ∙ open-taken σ e)))
-    (λ e. let z : _≡_ {A = ℕ} 0 1 = cc (ap (λ (o : Outcome). o .answer) (sym opened ∙ open-refused σ e)) in absurd (omega arith))
+pub open-made : (o : Opening) (t : Table) → openStep o ≡ outcome Done t → (settingsInRange o ≡ true) × (t ≡ emptyTable (settingsOf o))
+open-made o t opened =
+    by-test (settingsInRange o)
+    (λ e. (e, ap (λ (u : Outcome). u .table) (sym opened ∙ open-taken o e)))
+    (λ e. let z : _≡_ {A = ℕ} 0 1 = cc (ap (λ (u : Outcome). u .answer) (sym opened ∙ open-refused o e)) in absurd (omega arith))
 
 -- ---- enter
 
-module _ (t : Table) (id h l s : ℕ) where
-  pub enter-unfit : (load : ℕ) → figuresOf load l ≡ NoFigures → step t (Enter id h l load s) ≡ refused t BadEntry
+module _ (t : Table) (e : Entry) where
+  pub enter-unfit : figuresFor (t .settings) e ≡ NoFigures → step t (Enter e) ≡ refused t BadEntry
   unfolding step enterStep
-  enter-unfit load e = ap (enterStep t id h l s) e
+  enter-unfit f = ap (enterStep t e) f
 
-  pub enter-fit : (load : ℕ) (k : Figures) → figuresOf load l ≡ Given k → step t (Enter id h l load s) ≡ enterStep t id h l s (Given k)
+  pub enter-fit : (k : Figures) → figuresFor (t .settings) e ≡ Given k → step t (Enter e) ≡ enterStep t e (Given k)
   unfolding step
-  enter-fit load k e = ap (enterStep t id h l s) e
+  enter-fit k f = ap (enterStep t e) f
 
   module _ (k : Figures) where
-    pub enter-bad : (idInRange id && startInRange s) ≡ false → enterStep t id h l s (Given k) ≡ refused t BadEntry
+    pub enter-bad : (idInRange (e .id) && startInRange (e .start)) ≡ false → enterStep t e (Given k) ≡ refused t BadEntry
     unfolding enterStep firstOf
     enter-bad a = rw (a, enterStep)
 
-    pub enter-known : (i : ℕ) → (idInRange id && startInRange s) ≡ true → findOf t id ≡ At i → enterStep t id h l s (Given k) ≡ refused t OnLine
-    unfolding enterStep firstOf
-    enter-known i a b = rw (a, b, enterStep)
-
-    module _ (a : (idInRange id && startInRange s) ≡ true) (b : findOf t id ≡ Nothing) where
-      pub enter-full : places ≤ t .count → enterStep t id h l s (Given k) ≡ refused t LineFull
+    module _ (a : (idInRange (e .id) && startInRange (e .start)) ≡ true) where
+      pub enter-known : (i : ℕ) → findOf t (e .id) ≡ At i → enterStep t e (Given k) ≡ refused t OnLine
       unfolding enterStep firstOf
-      enter-full c = rw (a, b, le-leb places (t .count) c, enterStep)
+      enter-known i b = rw (a, b, enterStep)
 
-      pub enter-short : t .count < places → h < stepsOf l → enterStep t id h l s (Given k) ≡ refused t BadHead
-      unfolding enterStep firstOf
-      enter-short c d = rw (a, b, lt-leb places (t .count) c, lt-leb (stepsOf l) h d, enterStep)
+      module _ (b : findOf t (e .id) ≡ Nothing) where
+        pub enter-full : places ≤ t .count → enterStep t e (Given k) ≡ refused t LineFull
+        unfolding enterStep firstOf
+        enter-full c = rw (a, b, le-leb places (t .count) c, enterStep)
 
-      pub enter-beyond : t .count < places → stepsOf l ≤ h → withinLimit (t .settings) (aheadOf t (t .count)) h ≡ false
-          → enterStep t id h l s (Given k) ≡ refused t BadHead
-      unfolding enterStep firstOf
-      enter-beyond c d e = rw (a, b, lt-leb places (t .count) c, le-leb (stepsOf l) h d, e, enterStep)
+        module _ (c : t .count < places) where
+          pub enter-short : e .head < stepsOf (e .length) → enterStep t e (Given k) ≡ refused t BadHead
+          unfolding enterStep firstOf
+          enter-short d = rw (a, b, lt-leb places (t .count) c, lt-leb (stepsOf (e .length)) (e .head) d, enterStep)
 
-      pub enter-taken : t .count < places → stepsOf l ≤ h → withinLimit (t .settings) (aheadOf t (t .count)) h ≡ true
-          → enterStep t id h l s (Given k) ≡ outcome (Entered (k .full) (k .growth) h) (withLast t (entering id h l k s))
-      unfolding enterStep firstOf
-      enter-taken c d e = rw (a, b, lt-leb places (t .count) c, le-leb (stepsOf l) h d, e, enterStep)
+          pub enter-beyond : stepsOf (e .length) ≤ e .head → withinLimit (limitAt t (t .count)) (e .head) ≡ false → enterStep t e (Given k) ≡ refused t BadHead
+          unfolding enterStep firstOf
+          enter-beyond d f = rw (a, b, lt-leb places (t .count) c, le-leb (stepsOf (e .length)) (e .head) d, f, enterStep)
+
+          pub enter-taken : stepsOf (e .length) ≤ e .head → withinLimit (limitAt t (t .count)) (e .head) ≡ true
+              → enterStep t e (Given k) ≡ outcome (Entered (k .full) (k .growth) (e .head)) (withLast t (entering e k))
+          unfolding enterStep firstOf
+          enter-taken d f = rw (a, b, lt-leb places (t .count) c, le-leb (stepsOf (e .length)) (e .head) d, f, enterStep)
 
 -- ---- no such train
 
@@ -103,53 +110,56 @@ module _ (t : Table) (id i : ℕ) (x : Train) (found : findOf t id ≡ At i) (he
   own-found a = ap (ownStep t a) found ∙ (rw here)
 
   -- report
-  pub report-refused : (h v : ℕ) → reportAllowed (t .settings) x h v ≡ false → step t (Own id (Report h v)) ≡ refused t NotAllowed
+  pub report-refused : (r : Reading) → reportAllowed (t .settings) x r ≡ false → step t (Own id (Report r)) ≡ refused t NotAllowed
   unfolding actStep firstOf
-  report-refused h v e = own-found (Report h v) ∙ (rw (e, actStep))
+  report-refused r e = own-found (Report r) ∙ (rw (e, actStep))
 
-  pub report-taken : (h v : ℕ) → reportAllowed (t .settings) x h v ≡ true
-      → step t (Own id (Report h v)) ≡ outcome (Ordered (reported (t .settings) x h v .order) (reachOf (reported (t .settings) x h v))) (withTrain t i (reported (t .settings) x h v))
+  pub report-taken : (r : Reading) → reportAllowed (t .settings) x r ≡ true
+      → step t (Own id (Report r)) ≡ outcome (Ordered (reported (t .settings) x r .order) (reachOf (reported (t .settings) x r))) (withTrain t i (reported (t .settings) x r))
   unfolding actStep firstOf
-  report-taken h v e = own-found (Report h v) ∙ (rw (acted-report, e, actStep))
+  report-taken r e = own-found (Report r) ∙ (rw (acted-report, e, actStep))
 
   -- extend
-  module _ (n l : ℕ) where
-    pub extend-bad : requestInRange (t .settings) n l ≡ false → step t (Own id (Extend n l)) ≡ refused t BadRequest
+  module _ (q : Asked) where
+    abbrev mine : Authority
+    mine = x .authority
+
+    pub extend-bad : requestInRange (t .settings) q ≡ false → step t (Own id (Extend q)) ≡ refused t BadRequest
     unfolding actStep firstOf
-    extend-bad e = own-found (Extend n l) ∙ (rw (e, actStep))
+    extend-bad e = own-found (Extend q) ∙ (rw (e, actStep))
 
-    module _ (ranged : requestInRange (t .settings) n l ≡ true) where
-      pub extend-old : isOld x n ≡ true → step t (Own id (Extend n l)) ≡ refused t OldNumber
+    module _ (ranged : requestInRange (t .settings) q ≡ true) where
+      pub extend-old : isOld mine q ≡ true → step t (Own id (Extend q)) ≡ refused t OldNumber
       unfolding actStep firstOf
-      extend-old e = own-found (Extend n l) ∙ (rw (ranged, e, actStep))
+      extend-old e = own-found (Extend q) ∙ (rw (ranged, e, actStep))
 
-      module _ (fresh : isOld x n ≡ false) where
-        pub extend-other : n ≡ x .number → (l ≡ x .asked → ⊥) → step t (Own id (Extend n l)) ≡ refused t OtherLength
+      module _ (fresh : isOld mine q ≡ false) where
+        pub extend-other : q .number ≡ mine .number → (q .length ≡ mine .asked → ⊥) → step t (Own id (Extend q)) ≡ refused t OtherLength
         unfolding actStep firstOf isRepeat
-        extend-other e f = own-found (Extend n l) ∙ (rw (ranged, fresh, eq-eqb n (x .number) e, ne-eqb l (x .asked) f, actStep))
+        extend-other e f = own-found (Extend q) ∙ (rw (ranged, fresh, eq-eqb (q .number) (mine .number) e, ne-eqb (q .length) (mine .asked) f, actStep))
 
-        pub extend-repeat : n ≡ x .number → l ≡ x .asked → step t (Own id (Extend n l)) ≡ outcome (Extended (x .end) true) t
+        pub extend-repeat : q .number ≡ mine .number → q .length ≡ mine .asked → step t (Own id (Extend q)) ≡ outcome (Extended (mine .end) true) t
         unfolding actStep firstOf isRepeat
         extend-repeat e f =
-            own-found (Extend n l)
+            own-found (Extend q)
             ∙ (rw (
-              acted-repeat (t .settings) x n l (eq-eqb n (x .number) e),
+              acted-repeat (t .settings) x q (eq-eqb (q .number) (mine .number) e),
               ranged,
               fresh,
-              eq-eqb n (x .number) e,
-              eq-eqb l (x .asked) f,
+              eq-eqb (q .number) (mine .number) e,
+              eq-eqb (q .length) (mine .asked) f,
               actStep,
             ) (rw (ap (set (t .trains) i) here ∙ set-getD (t .trains) i blankTrain)))
 
-        pub extend-beyond : (n ≡ x .number → ⊥) → withinLimit (t .settings) (aheadOf t i) (x .end + l) ≡ false
-            → step t (Own id (Extend n l)) ≡ refused t NoTrack
+        pub extend-beyond : (q .number ≡ mine .number → ⊥) → withinLimit (limitAt t i) (mine .end + q .length) ≡ false → step t (Own id (Extend q)) ≡ refused t NoTrack
         unfolding actStep firstOf isRepeat
-        extend-beyond e f = own-found (Extend n l) ∙ (rw (ranged, fresh, ne-eqb n (x .number) e, f, actStep))
+        extend-beyond e f = own-found (Extend q) ∙ (rw (ranged, fresh, ne-eqb (q .number) (mine .number) e, f, actStep))
 
-        pub extend-new : (n ≡ x .number → ⊥) → withinLimit (t .settings) (aheadOf t i) (x .end + l) ≡ true
-            → step t (Own id (Extend n l)) ≡ outcome (Extended (x .end + l) false) (withTrain t i (authorised x (x .end + l) n l))
+        pub extend-new : (q .number ≡ mine .number → ⊥) → withinLimit (limitAt t i) (mine .end + q .length) ≡ true
+            → step t (Own id (Extend q)) ≡ outcome (Extended (mine .end + q .length) false) (withTrain t i (authorised x (granted mine q)))
         unfolding actStep firstOf isRepeat
-        extend-new e f = own-found (Extend n l) ∙ (rw (acted-new (t .settings) x n l (ne-eqb n (x .number) e), ranged, fresh, ne-eqb n (x .number) e, f, actStep))
+        extend-new e f =
+            own-found (Extend q) ∙ (rw (acted-new (t .settings) x q (ne-eqb (q .number) (mine .number) e), ranged, fresh, ne-eqb (q .number) (mine .number) e, f, actStep))
 
   -- call back
   pub call-back-refused : (place : ℕ) → callBackAllowed x place ≡ false → step t (Own id (CallBack place)) ≡ refused t BadPlace
@@ -161,15 +171,15 @@ module _ (t : Table) (id i : ℕ) (x : Train) (found : findOf t id ≡ At i) (he
   call-back-taken place e = own-found (CallBack place) ∙ (rw (acted-call-back, e, actStep))
 
   -- hold and lift
-  hold-taken : step t (Own id Hold) ≡ outcome Done (withTrain t i (marked x true))
+  hold-taken : step t (Own id Hold) ≡ outcome Done (withTrain t i (holding x true))
   unfolding actStep firstOf
   hold-taken = own-found Hold ∙ (rw acted-hold)
 
-  lift-taken : step t (Own id Lift) ≡ outcome Done (withTrain t i (marked x false))
+  lift-taken : step t (Own id Lift) ≡ outcome Done (withTrain t i (holding x false))
   unfolding actStep firstOf
   lift-taken = own-found Lift ∙ (rw acted-lift)
 
-  pub mark-taken : (b : Bool) → step t (Own id (cond b Hold Lift)) ≡ outcome Done (withTrain t i (marked x b))
+  pub mark-taken : (b : Bool) → step t (Own id (cond b Hold Lift)) ≡ outcome Done (withTrain t i (holding x b))
   mark-taken true = hold-taken
   mark-taken false = lift-taken
 

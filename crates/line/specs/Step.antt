@@ -4,26 +4,28 @@ use mathlib.Core.Bool.{cond}
 use mathlib.Core.Option.{Option, none, some}
 use Rattle.brake.specs.declared.FiguresFound.{FiguresFound}
 use Rattle.brake.specs.declared.FiguresFound.the-variants.{Given, NoFigures}
-use Rattle.brake.specs.Consist.{figuresOf}
-use Rattle.train.specs.declared.Settings.{Settings}
+use Rattle.calls.specs.declared.Opening.{Opening}
+use Rattle.calls.specs.declared.Entry.{Entry}
+use Rattle.calls.specs.declared.Act.{Act}
+use Rattle.calls.specs.declared.Act.the-variants.{Report, Extend, CallBack, Hold, Lift}
+use Rattle.calls.specs.declared.Call.{Call}
+use Rattle.calls.specs.declared.Call.the-variants.{Enter, Own, TakeOff}
+use Rattle.calls.specs.declared.Refusal.{Refusal}
+use Rattle.calls.specs.declared.Refusal.the-variants.{BadSetting, BadEntry, NoTrain}
+use Rattle.calls.specs.declared.Answer.{Answer}
+use Rattle.calls.specs.declared.Answer.the-variants.{Entered, Ordered, Extended, Done, Refused}
+use Rattle.calls.specs.Checks.{firstOf}
 use Rattle.train.specs.declared.Train.{Train}
+use Rattle.train.specs.Ranges.{settingsInRange, settingsOf}
+use Rattle.train.specs.Record.{figuresFor, entering}
+use Rattle.train.specs.Report.{reachOf}
+use Rattle.train.specs.Acts.{isRepeat, acted}
+use Rattle.train.specs.Checks.{actChecks}
 use Rattle.table.specs.declared.Table.{Table}
 use Rattle.table.specs.declared.Found.{Found}
 use Rattle.table.specs.declared.Found.the-variants.{At, Nothing}
-use Rattle.train.specs.declared.Act.{Act}
-use Rattle.train.specs.declared.Act.the-variants.{Report, Extend, CallBack, Hold, Lift}
-use Rattle.calls.specs.declared.Call.{Call}
-use Rattle.calls.specs.declared.Call.the-variants.{Enter, Own, TakeOff}
-use Rattle.train.specs.declared.Refusal.{Refusal}
-use Rattle.train.specs.declared.Refusal.the-variants.{BadSetting, BadEntry, NoTrain}
-use Rattle.calls.specs.declared.Answer.{Answer}
-use Rattle.calls.specs.declared.Answer.the-variants.{Entered, Ordered, Extended, Done, Refused}
+use Rattle.table.specs.Table.{emptyTable, findOf, trainAt, limitAt, withTrain, withLast, withoutFirst}
 use Rattle.line.specs.declared.Outcome.{Outcome}
-use Rattle.train.specs.Ranges.{settingsInRange}
-use Rattle.table.specs.Table.{emptyTable, findOf, trainAt, aheadOf, withTrain, withLast, withoutFirst}
-use Rattle.train.specs.Report.{reachOf}
-use Rattle.train.specs.Acts.{entering, isRepeat, acted}
-use Rattle.train.specs.Checks.{firstOf, actChecks}
 use Rattle.line.specs.Checks.{enterChecks, takeOffChecks}
 
 abbrev pub outcome : Answer → Table → Outcome
@@ -38,29 +40,29 @@ judged t none accepted = accepted
 judged t (some r) accepted = refused t r
 
 -- Open: a new table with these settings and no train. Refused, it makes no table: zeros stand for one.
-abbrev pub noSettings : Settings
-noSettings = record { end = 0; safety = 0; limits = record { ceiling = 0; traction = 0 } }
+abbrev pub noTable : Table
+noTable = emptyTable (settingsOf (record { end = 0; safety = 0; ceiling = 0; traction = 0 }))
 
-unfoldable pub openStep : Settings → Outcome
-openStep σ = cond (settingsInRange σ) (outcome Done (emptyTable σ)) (refused (emptyTable noSettings) BadSetting)
+unfoldable pub openStep : Opening → Outcome
+openStep o = cond (settingsInRange o) (outcome Done (emptyTable (settingsOf o))) (refused noTable BadSetting)
 
 -- Enter
-unfoldable pub enterStep : Table → ℕ → ℕ → ℕ → ℕ → FiguresFound → Outcome
-enterStep t id h l s NoFigures = refused t BadEntry
-enterStep t id h l s (Given k) =
-    judged t (firstOf (enterChecks t id h l s)) (outcome (Entered (k .full) (k .growth) h) (withLast t (entering id h l k s)))
+unfoldable pub enterStep : Table → Entry → FiguresFound → Outcome
+enterStep t e NoFigures = refused t BadEntry
+enterStep t e (Given k) =
+    judged t (firstOf (enterChecks t e)) (outcome (Entered (k .full) (k .growth) (e .head)) (withLast t (entering e k)))
 
 -- Report, extend, call back, hold, lift: what the train x answers once its record is y
 abbrev pub actAnswer : Act → Train → Train → Answer
-actAnswer (Report h v) x y = Ordered (y .order) (reachOf y)
-actAnswer (Extend n l) x y = Extended (y .end) (isRepeat x n)
+actAnswer (Report r) x y = Ordered (y .order) (reachOf y)
+actAnswer (Extend q) x y = Extended (y .authority .end) (isRepeat (x .authority) q)
 actAnswer (CallBack place) x y = Done
 actAnswer Hold x y = Done
 actAnswer Lift x y = Done
 
 unfoldable pub actStep : Table → ℕ → Train → Train → Act → Outcome
 actStep t i x y a =
-    judged t (firstOf (actChecks (t .settings) (aheadOf t i) x a)) (outcome (actAnswer a x y) (withTrain t i y))
+    judged t (firstOf (actChecks (t .settings) (limitAt t i) x a)) (outcome (actAnswer a x y) (withTrain t i y))
 
 unfoldable pub ownStep : Table → Act → Found → Outcome
 ownStep t a Nothing = refused t NoTrain
@@ -72,6 +74,6 @@ takeOffStep t Nothing = refused t NoTrain
 takeOffStep t (At i) = judged t (firstOf (takeOffChecks i (trainAt t i))) (outcome Done (withoutFirst t))
 
 unfoldable pub step : Table → Call → Outcome
-step t (Enter id h l load s) = enterStep t id h l s (figuresOf load l)
+step t (Enter e) = enterStep t e (figuresFor (t .settings) e)
 step t (Own id a) = ownStep t a (findOf t id)
 step t (TakeOff id) = takeOffStep t (findOf t id)

@@ -1,19 +1,21 @@
 // The calls on the table of trains: document 01, "Authorities" and "What is turned down".
 ghost use mathlib.Core.Path.{_≡_};
 ghost use mathlib.Core.Bool.{true, cond, _&&_};
-ghost use Rattle.train.specs.Ranges.{idInRange, startInRange};
-ghost use Rattle.table.specs.Table.{emptyTable};
-ghost use Rattle.line.specs.Step.{refused, noSettings, openStep, enterStep, step};
+ghost use Prim.Native.Nat.{_≤_};
+ghost use Rattle.ranges.specs.Ranges.{greatestLength, idInRange, startInRange};
+ghost use Rattle.line.specs.Step.{refused, noTable, openStep, enterStep, step};
 use brake::Figures;
 use brake::FiguresFound;
+use calls::Act;
 use calls::Answer;
+use calls::Asked;
 use calls::Call;
-use motion::Limits;
+use calls::Entry;
+use calls::Opening;
+use calls::Reading;
+use calls::Refusal;
 use table::Found;
 use table::Table;
-use train::Act;
-use train::Refusal;
-use train::Settings;
 
 // The answer and the table after a call.
 pub struct Outcome {
@@ -33,87 +35,85 @@ fn refuse(t: Table, r: Refusal) -> Outcome
 
 // Zeros in place of a table, where no opening has made one.
 pub fn no_table() -> Table
-    ensures { λ r. ⌜ r ≡ emptyTable noSettings ⌝ }
+    ensures { λ r. ⌜ r ≡ noTable ⌝ }
 {
-    table::empty_table(Settings {
+    table::empty_table(train::settings_of(Opening {
         end: 0,
         safety: 0,
-        limits: Limits {
-            ceiling: 0,
-            traction: 0,
-        },
-    })
+        ceiling: 0,
+        traction: 0,
+    }))
 }
 
 // Open: a new table with no train. A table already there is another one.
-pub fn open(s: Settings) -> Outcome
-    ensures { λ r. ⌜ r ≡ openStep s ⌝ }
+pub fn open(o: Opening) -> Outcome
+    ensures { λ r. ⌜ r ≡ openStep o ⌝ }
 {
-    if train::settings_in_range(s) {
+    if train::settings_in_range(o) {
         return Outcome {
             answer: Answer::Done,
-            table: table::empty_table(s),
+            table: table::empty_table(train::settings_of(o)),
         };
     }
     refuse(no_table(), Refusal::BadSetting)
 }
 
 // Enter: behind the last train, standing.
-pub fn enter(t: Table, id: u64, head: u64, length: u64, load: u64, start: u64) -> Outcome
-    ensures { λ r. ⌜ r ≡ step t (Call.Enter id head length load start) ⌝ }
+pub fn enter(t: Table, e: Entry) -> Outcome
+    ensures { λ r. ⌜ r ≡ step t (Call.Enter e) ⌝ }
 {
-    let FiguresFound::Given(k) = brake::figures_of(load, length) else {
+    let s = t.settings;
+    let FiguresFound::Given(k) = train::figures_for(s, e) else {
         return refuse(t, Refusal::BadEntry);
     };
-    if !train::id_in_range(id) {
+    if !logic::both(ranges::id_in_range(e.id), ranges::start_in_range(e.start)) {
         return refuse(t, Refusal::BadEntry);
     }
-    if !train::start_in_range(start) {
-        return refuse(t, Refusal::BadEntry);
-    }
-    enter_with(t, id, head, length as u16, k, start)
+    enter_with(t, e, k)
 }
 
 // Enter with an id, a starting number and a consist in range.
-fn enter_with(t: Table, id: u64, head: u64, length: u16, k: Figures, start: u64) -> Outcome
-    requires { ⌜ (idInRange id && startInRange start) ≡ true ⌝ }
-    ensures { λ r. ⌜ r ≡ enterStep t id head length start (FiguresFound.Given k) ⌝ }
+fn enter_with(t: Table, e: Entry, k: Figures) -> Outcome
+    requires { ⌜ ((idInRange (e .id) && startInRange (e .start)) ≡ true) × (e .length ≤ greatestLength) ⌝ }
+    ensures { λ r. ⌜ r ≡ enterStep t e (FiguresFound.Given k) ⌝ }
 {
-    let f = table::find(t, id);
+    let f = table::find(t, e.id);
     let n = t.count;
+    let head = e.head;
     match f {
         Found::At(_) => refuse(t, Refusal::OnLine),
         Found::Nothing => {
-            if 32 <= n {
+            if table::PLACES <= n {
                 return refuse(t, Refusal::LineFull);
             }
-            if head < train::steps_of(length) {
+            if head < train::steps_of(e.length as u16) {
                 return refuse(t, Refusal::BadHead);
             }
-            if !table::within_limit(t, n, head, 0) {
+            let limit = table::limit_at(t, n);
+            if !train::within(limit, head, 0) {
                 return refuse(t, Refusal::BadHead);
             }
             Outcome {
                 answer: Answer::Entered(k.full, k.growth, head),
-                table: table::with_last(t, train::new_train(id, head, length, k, start)),
+                table: table::with_last(t, train::new_train(e, k)),
             }
         }
     }
 }
 
 // Report: closes one cycle, and gets the order for the next.
-pub fn report(t: Table, id: u64, head: u64, speed: u64) -> Outcome
-    ensures { λ r. ⌜ r ≡ step t (Call.Own id (Act.Report head speed)) ⌝ }
+pub fn report(t: Table, id: u64, r: Reading) -> Outcome
+    ensures { λ o. ⌜ o ≡ step t (Call.Own id (Act.Report r)) ⌝ }
 {
     let Found::At(i) = table::find(t, id) else {
         return refuse(t, Refusal::NoTrain);
     };
     let s = t.settings;
     let x = table::train_at(t, i);
-    if !train::report_allowed(s, x, head, speed) {
+    if !train::report_allowed(s, x, r) {
         return refuse(t, Refusal::NotAllowed);
     }
-    let after = train::report_on(s, x, head, speed);
+    let after = train::report_on(s, x, r);
     let y = after.train;
     let o = y.order;
     Outcome {
@@ -123,23 +123,25 @@ pub fn report(t: Table, id: u64, head: u64, speed: u64) -> Outcome
 }
 
 // Extend: a new number adds its length if the new end is within the limit, and the last accepted one again adds none.
-pub fn extend(t: Table, id: u64, number: u64, length: u64) -> Outcome
-    ensures { λ r. ⌜ r ≡ step t (Call.Own id (Act.Extend number length)) ⌝ }
+pub fn extend(t: Table, id: u64, q: Asked) -> Outcome
+    ensures { λ r. ⌜ r ≡ step t (Call.Own id (Act.Extend q)) ⌝ }
 {
     let Found::At(i) = table::find(t, id) else {
         return refuse(t, Refusal::NoTrain);
     };
     let s = t.settings;
     let x = table::train_at(t, i);
-    let end = x.end;
-    if !train::request_in_range(s, number, length) {
+    let a = x.authority;
+    let end = a.end;
+    let length = q.length;
+    if !train::request_in_range(s, q) {
         return refuse(t, Refusal::BadRequest);
     }
-    if train::is_old(x, number) {
+    if train::is_old(a, q) {
         return refuse(t, Refusal::OldNumber);
     }
-    if number == x.number {
-        if length != x.asked {
+    if q.number == a.number {
+        if length != a.asked {
             return refuse(t, Refusal::OtherLength);
         }
         return Outcome {
@@ -147,13 +149,15 @@ pub fn extend(t: Table, id: u64, number: u64, length: u64) -> Outcome
             table: t,
         };
     }
-    if !table::within_limit(t, i, end, length) {
+    let limit = table::limit_at(t, i);
+    if !train::within(limit, end, length) {
         return refuse(t, Refusal::NoTrack);
     }
-    let sum = end + length;
+    let y = train::grant(x, q);
+    let b = y.authority;
     Outcome {
-        answer: Answer::Extended(sum, false),
-        table: table::with_train(t, i, train::with_authority(x, sum, number, length)),
+        answer: Answer::Extended(b.end, false),
+        table: table::with_train(t, i, y),
     }
 }
 
@@ -170,7 +174,7 @@ pub fn call_back(t: Table, id: u64, place: u64) -> Outcome
     }
     Outcome {
         answer: Answer::Done,
-        table: table::with_train(t, i, train::with_authority(x, place, x.number, x.asked)),
+        table: table::with_train(t, i, train::call_back_to(x, place)),
     }
 }
 
@@ -184,7 +188,7 @@ fn set_mark(t: Table, id: u64, held: bool) -> Outcome
     let x = table::train_at(t, i);
     Outcome {
         answer: Answer::Done,
-        table: table::with_train(t, i, train::with_mark(x, held)),
+        table: table::with_train(t, i, train::with_held(x, held)),
     }
 }
 
@@ -223,8 +227,8 @@ fn apply_own(t: Table, id: u64, a: Act) -> Outcome
     ensures { λ r. ⌜ r ≡ step t (Call.Own id a) ⌝ }
 {
     match a {
-        Act::Report(head, speed) => report(t, id, head, speed),
-        Act::Extend(number, length) => extend(t, id, number, length),
+        Act::Report(r) => report(t, id, r),
+        Act::Extend(q) => extend(t, id, q),
         Act::CallBack(place) => call_back(t, id, place),
         Act::Hold => hold(t, id),
         Act::Lift => lift(t, id),
@@ -236,7 +240,7 @@ pub fn apply(t: Table, c: Call) -> Outcome
     ensures { λ r. ⌜ r ≡ step t c ⌝ }
 {
     match c {
-        Call::Enter(id, head, length, load, start) => enter(t, id, head, length, load, start),
+        Call::Enter(e) => enter(t, e),
         Call::Own(id, a) => apply_own(t, id, a),
         Call::TakeOff(id) => take_off(t, id),
     }

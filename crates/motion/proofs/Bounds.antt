@@ -1,7 +1,7 @@
 -- Bounds that braking and driving keep, and the sums that fit by them.
 -- Assumes nothing.
 use Prim.Native.Nat.{ℕ, _+_, _*_, _≤_}
-use mathlib.Core.Bool.{true, false}
+use mathlib.Core.Bool.{true}
 use mathlib.Core.Path.{_≡_, _∙_}
 use native.Mathlib.Nat.{mul-le-mul, le-trans}
 use native.Mathlib.Omega.{arith}
@@ -9,13 +9,14 @@ use lib.Dec.{leb}
 use borrow.Author.Tests.{le-leb, leb-true}
 use Rattle.brake.specs.declared.Figures.{Figures}
 use Rattle.brake.specs.Consist.{greatestFull}
-use Rattle.brake.proofs.Tests.{by-test, both}
+use Rattle.logic.proofs.Tests.{both}
 use Rattle.motion.specs.declared.Motion.{Motion}
 use Rattle.motion.specs.declared.Order.{Order}
 use Rattle.motion.specs.declared.Order.the-variants.{Drive, Brake}
 use Rattle.motion.specs.Motion.{brakeTravel, brakeSpeed, nextLevel, driveTravel, driveSpeed, enoughCycles, stoppingDistance}
 use Rattle.motion.specs.Orders.{orderCap, worstCase}
-use Rattle.motion.specs.Bounds.{greatestLineEnd, greatestCeiling, greatestTraction, greatestSpeed, Braking, Driving, Bounded, inBounds}
+use Rattle.ranges.specs.Ranges.{greatestLineEnd, greatestCeiling, greatestTraction}
+use Rattle.motion.specs.Bounds.{greatestSpeed, Braking, Driving, Bounded, inBounds}
 use Rattle.motion.proofs.Cycles.{travel-le, speed-le, level-le}
 use Rattle.motion.proofs.Runs.{stop-le}
 
@@ -76,9 +77,6 @@ bounds-cap k m c b =
 
 pub bounds-hold : (k : Figures) (m : Motion) (c : ℕ) → Bounded k m c → inBounds k m c ≡ true
 bounds-hold k m c b = bounds-cap k m c (bounded-cap b (omega arith)) ∙ le-leb c greatestTraction (b .cap)
-
-pub bounds-fail : (k : Figures) (m : Motion) (c : ℕ) → (Bounded k m c → ⊥) → inBounds k m c ≡ false
-bounds-fail k m c out = by-test (inBounds k m c) (λ t. absurd (out (bounds-tested k m c t))) (λ f. f)
 
 -- ---- a bounded train under an order
 

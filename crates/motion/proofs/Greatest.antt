@@ -7,11 +7,11 @@ use mathlib.Core.Path.{_≡_, refl, sym, _∙_, ap, subst}
 use native.Mathlib.Decide.{decLe, decLt}
 use native.Mathlib.Nat.{le-refl, le-trans}
 use native.Mathlib.Omega.{arith}
-use Rattle.brake.proofs.Tests.{by-test, not-both}
+use Rattle.logic.proofs.Tests.{by-test, not-both}
 use Rattle.motion.specs.declared.Order.{Order}
 use Rattle.motion.specs.declared.Order.the-variants.{Drive, Brake}
 use Rattle.motion.specs.Orders.{greatest}
-use Rattle.motion.specs.Bounds.{greatestTraction}
+use Rattle.ranges.specs.Ranges.{greatestTraction}
 
 -- ---- what the greatest is
 

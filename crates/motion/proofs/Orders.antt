@@ -10,14 +10,15 @@ use lib.Dec.{leb}
 use borrow.Author.Tests.{le-leb, lt-leb, leb-true}
 use Rattle.brake.specs.declared.Figures.{Figures}
 use Rattle.brake.specs.Consist.{Sound}
-use Rattle.brake.proofs.Tests.{both}
+use Rattle.logic.proofs.Tests.{both}
 use Rattle.motion.specs.declared.Motion.{Motion}
 use Rattle.motion.specs.declared.Limits.{Limits}
 use Rattle.motion.specs.declared.Order.{Order}
 use Rattle.motion.specs.declared.Order.the-variants.{Drive, Brake}
 use Rattle.motion.specs.Motion.{driveSpeed, releasedLevel}
 use Rattle.motion.specs.Orders.{orderCap, worstCase, reach, capFits, keepsGoal, CapsAllowed, greatest, orderFor}
-use Rattle.motion.specs.Bounds.{greatestLineEnd, greatestCeiling, greatestTraction, Bounded}
+use Rattle.ranges.specs.Ranges.{greatestLineEnd, greatestCeiling, greatestTraction}
+use Rattle.motion.specs.Bounds.{Bounded}
 use Rattle.motion.proofs.Cycles.{level-le, drive-speed-mono}
 use Rattle.motion.proofs.Bounds.{speedBound, bound-ceiling, bound-brake, bound-fits}
 use Rattle.motion.proofs.Domination.{NoWorse, no-worse-drive, no-worse-stop, brake-keeps}

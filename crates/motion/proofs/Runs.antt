@@ -10,7 +10,7 @@ use native.Mathlib.Omega.{arith}
 use borrow.Author.Tests.{eqb-false}
 use Rattle.brake.specs.declared.Figures.{Figures}
 use Rattle.brake.specs.Consist.{Sound}
-use Rattle.brake.proofs.Tests.{by-test}
+use Rattle.logic.proofs.Tests.{by-test}
 use Rattle.motion.specs.Motion.{brakeTravel, brakeSpeed, nextLevel, stands, Cycle, brakedCycle, firstCycles, enoughCycles, brakedRun, totalTravel, stoppingDistance}
 use Rattle.motion.proofs.Cycles.{travel-le, travel-mono, speed-mono, stands-mono, travel-stands, stays}
 

@@ -9,9 +9,9 @@ use native.Mathlib.Nat.{mul-le-mul-right}
 use native.Mathlib.Omega.{arith}
 use borrow.Author.Tests.{eq-eqb}
 use Rattle.brake.specs.declared.Figures.{Figures}
-use Rattle.brake.specs.Rounding.{ceilDiv}
+use Rattle.logic.specs.Rounding.{ceilDiv}
 use Rattle.brake.specs.Consist.{Sound}
-use Rattle.brake.proofs.Rounding.{ceil-ge}
+use Rattle.logic.proofs.Rounding.{ceil-ge}
 use Rattle.motion.specs.declared.Motion.{Motion}
 use Rattle.motion.specs.declared.Order.the-variants.{Brake}
 use Rattle.motion.specs.Motion.{brakeSpeed, nextLevel, stands}

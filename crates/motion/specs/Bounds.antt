@@ -5,21 +5,12 @@ use Prim.Native.Nat.{ℕ, _+_, _≤_, _<_}
 use mathlib.Core.Bool.{Bool, _&&_}
 use mathlib.Core.Path.{_≡_}
 use lib.Dec.{leb}
+use Rattle.ranges.specs.Ranges.{greatestLineEnd, greatestCeiling, greatestTraction}
 use Rattle.brake.specs.declared.Figures.{Figures}
 use Rattle.brake.specs.Consist.{Sound, greatestFull}
 use Rattle.motion.specs.declared.Motion.{Motion}
 use Rattle.motion.specs.declared.Order.the-variants.{Drive}
 use Rattle.motion.specs.Orders.{reach}
-
--- upper ends of three ranges: line end, speed ceiling V and greatest traction A
-abbrev pub greatestLineEnd : ℕ
-greatestLineEnd = 2000000000000
-
-abbrev pub greatestCeiling : ℕ
-greatestCeiling = 40000000
-
-abbrev pub greatestTraction : ℕ
-greatestTraction = 100000
 
 -- No report leaves a higher speed: on flat track the ceiling holds while braking too.
 abbrev pub greatestSpeed : ℕ

@@ -1,7 +1,7 @@
 -- Document 01, "Authorities": how many braked cycles bring any train within the ceiling to a stand.
 use Prim.Native.Nat.{ℕ, _+_}
 use Rattle.brake.specs.declared.Figures.{Figures}
-use Rattle.brake.specs.Rounding.{ceilDiv}
+use Rattle.logic.specs.Rounding.{ceilDiv}
 
 -- B/j, rounded up: until the brake is full
 abbrev pub cyclesToFull : Figures → ℕ

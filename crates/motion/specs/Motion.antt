@@ -6,7 +6,7 @@ use mathlib.Core.Bool.{Bool, true, false, cond}
 use mathlib.Core.List.{List, [], _∷_}
 use lib.Dec.{leb, eqb}
 use Rattle.brake.specs.declared.Figures.{Figures}
-use Rattle.brake.specs.Rounding.{ceilDiv}
+use Rattle.logic.specs.Rounding.{ceilDiv}
 
 -- travel in a braked cycle at speed v and level b
 unfoldable pub brakeTravel : Figures → ℕ → ℕ → ℕ

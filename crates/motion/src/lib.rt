@@ -1,9 +1,16 @@
 // Worst-case motion and the order of one train: document 01, "Worst-case motion" and "Orders".
 ghost use mathlib.Core.Path.{_≡_};
 ghost use Rattle.motion.specs.Motion.{brakeTravel, brakeSpeed, nextLevel, driveTravel, driveSpeed, stands, stoppingDistance};
-ghost use Rattle.motion.specs.Orders.{orderCap, worstCase, reach, offer, CapsAllowed, keepsGoal, greatest, orderFor};
+ghost use Rattle.motion.specs.Orders.{orderNumber, orderCap, worstCase, reach, offer, CapsAllowed, keepsGoal, greatest, orderFor};
 ghost use Rattle.motion.specs.Bounds.{Level, Braking, Driving, Bounded, Halving, inBounds};
 use brake::Figures;
+use brake::GREATEST_FULL;
+use ranges::GREATEST_CEILING;
+use ranges::GREATEST_LINE_END;
+use ranges::GREATEST_TRACTION;
+
+// No report leaves a higher speed: on flat track the ceiling holds while braking too.
+const GREATEST_SPEED: u64 = GREATEST_CEILING;
 
 // An order: drive with a cap on the traction, or brake.
 pub enum Order {
@@ -30,31 +37,43 @@ pub struct Limits {
     pub traction: u64,
 }
 
+// An order in numbers: 1 drive or 2 brake, and the cap, 0 with brake.
+pub fn order_number(o: Order) -> u64
+    ensures { λ r. ⌜ r ≡ orderNumber o ⌝ }
+{
+    match o {
+        Order::Drive(_) => 1,
+        Order::Brake => 2,
+    }
+}
+
+pub fn order_cap(o: Order) -> u64
+    ensures { λ r. ⌜ r ≡ orderCap o ⌝ }
+{
+    match o {
+        Order::Drive(c) => c,
+        Order::Brake => 0,
+    }
+}
+
 // Whether a train with these figures and this motion, and a cap, are within the bounds that the functions below require.
 pub fn in_bounds(k: Figures, m: Motion, c: u64) -> bool
     ensures { λ r. ⌜ r ≡ inBounds k m c ⌝ }
 {
     let full = k.full;
     let growth = k.growth;
-    if growth < 1 {
-        return false;
-    }
-    if full < growth {
-        return false;
-    }
-    if 162039 < full {
-        return false;
-    }
-    if full < m.level {
-        return false;
-    }
-    if 2000000000000 < m.head {
-        return false;
-    }
-    if 40000000 < m.speed {
-        return false;
-    }
-    c <= 100000
+    let sound = logic::both(
+        logic::both(1 <= growth, growth <= full),
+        full <= GREATEST_FULL,
+    );
+    let placed = logic::both(
+        logic::both(sound, m.level <= full),
+        m.head <= GREATEST_LINE_END,
+    );
+    logic::both(
+        logic::both(placed, m.speed <= GREATEST_SPEED),
+        c <= GREATEST_TRACTION,
+    )
 }
 
 // Travel in a braked cycle at speed v and level b. The last cycle is rounded up: never shorter than the train rolls.

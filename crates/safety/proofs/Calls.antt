@@ -9,39 +9,46 @@ use native.Mathlib.Omega.{arith}
 use lib.Dec.{leb}
 use lib.ListN.{length}
 use borrow.Author.Tests.{leb-true, leb-false, not-false}
+use Rattle.logic.proofs.Tests.{both}
 use Rattle.brake.specs.declared.Figures.{Figures}
 use Rattle.brake.specs.declared.FiguresFound.{FiguresFound}
 use Rattle.brake.specs.declared.FiguresFound.the-variants.{Given, NoFigures}
-use Rattle.brake.specs.Consist.{figuresOf}
-use Rattle.brake.proofs.Tests.{both}
 use Rattle.brake.proofs.Consist.{given-sound}
+use Rattle.calls.specs.declared.Opening.{Opening}
+use Rattle.calls.specs.declared.Entry.{Entry}
+use Rattle.calls.specs.declared.Act.{Act}
+use Rattle.calls.specs.declared.Call.{Call}
+use Rattle.calls.specs.declared.Call.the-variants.{Enter, Own, TakeOff}
+use Rattle.calls.specs.declared.Refusal.{Refusal}
+use Rattle.calls.specs.declared.Refusal.the-variants.{BadEntry, NoTrain}
+use Rattle.calls.specs.declared.Answer.the-variants.{Entered, Done, Refused}
+use Rattle.calls.specs.Checks.{firstOf}
+use Rattle.calls.proofs.Checks.{passed}
 use Rattle.train.specs.declared.Settings.{Settings}
+use Rattle.train.specs.Ranges.{settingsOf}
+use Rattle.train.specs.Record.{figuresFor, entering}
+use Rattle.train.specs.Track.{stepsOf}
+use Rattle.train.specs.Acts.{acted}
+use Rattle.train.specs.Checks.{actChecks}
+use Rattle.train.proofs.Track.{limit-tested}
+use Rattle.train.proofs.Checks.{first-leaves}
 use Rattle.table.specs.declared.Table.{Table}
 use Rattle.table.specs.declared.Found.{Found}
 use Rattle.table.specs.declared.Found.the-variants.{At, Nothing}
-use Rattle.train.specs.declared.Act.{Act}
-use Rattle.calls.specs.declared.Call.{Call}
-use Rattle.calls.specs.declared.Call.the-variants.{Enter, Own, TakeOff}
-use Rattle.train.specs.declared.Refusal.{Refusal}
-use Rattle.train.specs.declared.Refusal.the-variants.{BadEntry, NoTrain}
-use Rattle.calls.specs.declared.Answer.the-variants.{Entered, Done, Refused}
+use Rattle.table.specs.Table.{places, emptyTable, findOf, trainAt, limitAt, withTrain, withLast, withoutFirst}
+use Rattle.table.proofs.Places.{found-below, not-found}
+use Rattle.table.proofs.Trains.{sized-empty, line-with, sized-with, line-last, sized-last, line-without-first, sized-without-first}
 use Rattle.line.specs.declared.Outcome.{Outcome}
-use Rattle.table.specs.Table.{places, emptyTable, findOf, trainAt, aheadOf, withTrain, withLast, withoutFirst}
-use Rattle.train.specs.Acts.{stepsOf, entering, acted}
-use Rattle.train.specs.Checks.{firstOf, actChecks}
 use Rattle.line.specs.Checks.{enterChecks, takeOffChecks}
 use Rattle.line.specs.Step.{outcome, judged, openStep, enterStep, actAnswer, actStep, ownStep, takeOffStep, step}
+use Rattle.line.proofs.Steps.{open-made}
 use Rattle.safety.specs.History.{Event, history, after, stayFrom, stays, heldFor}
-use Rattle.train.proofs.Checks.{passed, limit-tested, first-leaves}
-use Rattle.table.proofs.Places.{found-below, not-found}
 use Rattle.safety.proofs.Stays.{newStay, event, act-accepted, done-accepted, stays-refused, stays-enter, stays-kept}
 use Rattle.safety.proofs.Train.{guarded-entering}
 use Rattle.safety.proofs.Records.{record-new}
-use Rattle.line.proofs.Steps.{open-made}
-use Rattle.table.proofs.Trains.{sized-empty, line-with, sized-with, line-last, sized-last, line-without-first, sized-without-first}
 use Rattle.safety.proofs.Finding.{IsAt}
 use Rattle.safety.proofs.Line.{Steady, aheadIn, lined-act, lined-enter, lined-off}
-use Rattle.safety.proofs.Told.{Told, told-count, told-train, told-ahead, told-absent, told-place}
+use Rattle.safety.proofs.Told.{Told, told-count, told-train, told-limit, told-absent, told-place}
 
 -- one call more, with this outcome
 abbrev Next : Settings → List Event → Call → Outcome → Type 0
@@ -61,13 +68,13 @@ module _ (σ : Settings) (es : List Event) (t : Table) (T : Told σ es t) where
 
   -- ---- an act
 
-  told-act : (id : ℕ) (a : Act) (i : ℕ) → findOf t id ≡ At i → firstOf (actChecks (t .settings) (aheadOf t i) (trainAt t i) a) ≡ none
+  told-act : (id : ℕ) (a : Act) (i : ℕ) → findOf t id ≡ At i → firstOf (actChecks (t .settings) (limitAt t i) (trainAt t i) a) ≡ none
       → Next σ es (Own id a)
       (outcome (actAnswer a (trainAt t i) (acted (t .settings) a (trainAt t i))) (withTrain t i (acted (t .settings) a (trainAt t i))))
   told-act id a i f e =
       let x = trainAt t i in
       let below = found-below t id i f in
-      let passes = rw (told-ahead σ es t T i (omega arith), told-train σ es t T i below) at e in
+      let passes = rw (told-limit σ es t T i (omega arith), told-train σ es t T i below) at e in
       let (lined, same) = lined-act (t .settings) id a none (stays es) i (T .lined) (told-place σ es t T id i f) passes in
       let now = stays-kept es (Own id a) (actAnswer a x (acted (t .settings) a x)) (act-accepted _ a x _) (unfold stayFrom in refl) in
       record {
@@ -79,25 +86,25 @@ module _ (σ : Settings) (es : List Event) (t : Table) (T : Told σ es t) where
 
   -- ---- an entering
 
-  told-enter : (id h l load s : ℕ) (k : Figures) → figuresOf load l ≡ Given k → firstOf (enterChecks t id h l s) ≡ none
-      → Next σ es (Enter id h l load s) (outcome (Entered (k .full) (k .growth) h) (withLast t (entering id h l k s)))
+  told-enter : (e : Entry) (k : Figures) → figuresFor (t .settings) e ≡ Given k → firstOf (enterChecks t e) ≡ none
+      → Next σ es (Enter e) (outcome (Entered (k .full) (k .growth) (e .head)) (withLast t (entering e k)))
   unfolding heldFor
-  told-enter id h l load s k f e =
-      let fresh = passed _ _ _ (passed _ _ _ e .1) in
+  told-enter e k f q =
+      let fresh = passed _ _ _ (passed _ _ _ q .1) in
       let room = passed _ _ _ (fresh .1) in
-      let place = both (leb (stepsOf l) h) _ (not-false _ (passed _ _ _ (room .1) .0)) in
+      let place = both (leb (stepsOf (e .length)) (e .head)) _ (not-false _ (passed _ _ _ (room .1) .0)) in
       let free : t .count < places = leb-false places (t .count) (room .0) in
-      let absent = told-absent σ es t T id (not-found (findOf t id) (fresh .0)) in
-      let limit = rw (told-ahead σ es t T (t .count) (le-refl _), told-count σ es t T) at (limit-tested _ _ _ (place .1)) in
-      let now = stays-enter es id h l load s (k .full) (k .growth) in
-      let new = record-new id h l load s k f in
-      let steady : Steady (t .settings) (aheadIn none (stays es) (length (stays es))) (newStay id h l load s) =
-      record { guarded = rw new (guarded-entering _ _ id h l k s (given-sound load l k f) (leb-true _ _ (place .0)) limit); slowing = tt } in
+      let absent = told-absent σ es t T (e .id) (not-found (findOf t (e .id)) (fresh .0)) in
+      let limit = rw (told-limit σ es t T (t .count) (le-refl _), told-count σ es t T) at (limit-tested (limitAt t (t .count)) (e .head) (place .1)) in
+      let now = stays-enter es e (k .full) (k .growth) in
+      let new = record-new (t .settings) e k f in
+      let steady : Steady (t .settings) (aheadIn none (stays es) (length (stays es))) (newStay e) =
+      record { guarded = rw new (guarded-entering _ _ e k (given-sound (e .load) (e .length) k f) (leb-true _ _ (place .0)) limit); slowing = tt } in
       record {
         settings = T .settings;
         sized = sized-last t _ (T .sized) free;
-        trains = rw (line-last t (entering id h l k s) (T .sized) free, T .trains, now, map-append, new);
-        lined = rw now (lined-enter (t .settings) none (stays es) (newStay id h l load s) (T .lined) absent steady);
+        trains = rw (line-last t (entering e k) (T .sized) free, T .trains, now, map-append, new);
+        lined = rw now (lined-enter (t .settings) none (stays es) (newStay e) (T .lined) absent steady);
       }
 
   -- ---- a taking off
@@ -118,16 +125,16 @@ module _ (σ : Settings) (es : List Event) (t : Table) (T : Told σ es t) where
 
   told-step : (c : Call) → Next σ es c (step t c)
   unfolding step enterStep ownStep actStep takeOffStep
-  told-step (Enter id h l load s) = go (figuresOf load l) refl
+  told-step (Enter e) = go (figuresFor (t .settings) e) refl
     where
-      go : (f : FiguresFound) → figuresOf load l ≡ f → Next σ es (Enter id h l load s) (enterStep t id h l s f)
+      go : (f : FiguresFound) → figuresFor (t .settings) e ≡ f → Next σ es (Enter e) (enterStep t e f)
       go NoFigures q = told-refused _ BadEntry
-      go (Given k) q = told-judged _ (firstOf (enterChecks t id h l s)) _ (told-enter id h l load s k q)
+      go (Given k) q = told-judged _ (firstOf (enterChecks t e)) _ (told-enter e k q)
   told-step (Own id a) = go (findOf t id) refl
     where
       go : (f : Found) → findOf t id ≡ f → Next σ es (Own id a) (ownStep t a f)
       go Nothing q = told-refused _ NoTrain
-      go (At i) q = told-judged _ (firstOf (actChecks (t .settings) (aheadOf t i) (trainAt t i) a)) _ (told-act id a i q)
+      go (At i) q = told-judged _ (firstOf (actChecks (t .settings) (limitAt t i) (trainAt t i) a)) _ (told-act id a i q)
   told-step (TakeOff id) = go (findOf t id) refl
     where
       go : (f : Found) → findOf t id ≡ f → Next σ es (TakeOff id) (takeOffStep t f)
@@ -144,8 +151,9 @@ told-list σ (c ∷ cs) es t T =
     rw (← (append-assoc es (e ∷ []) (history (step t c .table) cs))) (told-list σ cs (es ++ (e ∷ [])) (step t c .table) (told-step σ es t T c))
 
 -- on the table that an accepted opening made
-pub told : (σ : Settings) (t : Table) → openStep σ ≡ outcome Done t → (cs : List Call) → Told σ (history t cs) (after t cs)
+pub told : (o : Opening) (t : Table) → openStep o ≡ outcome Done t → (cs : List Call) → Told (settingsOf o) (history t cs) (after t cs)
 unfolding stays
-told σ t opened cs =
-    rw (open-made σ t opened .1)
+told o t opened cs =
+    let σ = settingsOf o in
+    rw (open-made o t opened .1)
     (told-list σ cs [] (emptyTable σ) (record { settings = refl; sized = sized-empty σ; trains = refl; lined = tt }))

@@ -6,10 +6,12 @@ use mathlib.Core.Option.{Option, none, some}
 use mathlib.Core.List.{List, [], _∷_, _++_, foldl-append}
 use mathlib.Core.Path.{_≡_, refl, sym, _∙_}
 use native.Mathlib.Omega.{arith}
-use Rattle.train.specs.declared.Act.{Act}
-use Rattle.train.specs.declared.Act.the-variants.{Report, Extend, CallBack, Hold, Lift}
+use Rattle.calls.specs.declared.Act.{Act}
+use Rattle.calls.specs.declared.Act.the-variants.{Report, Extend, CallBack, Hold, Lift}
 use Rattle.calls.specs.declared.Numbers.{Numbers}
-use Rattle.safety.specs.History.{Deed, Stay, headBy, headOf, speedBy, speedOf, authorityBy, authorityOf, endOf, figuresFor, orderingBy, orderingOf, hasLift, reportsIn, heldFor}
+use Rattle.train.specs.declared.Settings.{Settings}
+use Rattle.train.specs.Record.{freshMarks, same, withHeld}
+use Rattle.safety.specs.History.{Deed, Stay, headBy, headOf, speedBy, speedOf, authorityBy, authorityOf, brakeOf, orderingBy, orderingOf, hasLift, reportsIn, heldFor}
 use Rattle.safety.specs.Claim.{isHeld, recordOf}
 use Rattle.safety.proofs.Stays.{withDeeds}
 
@@ -50,8 +52,8 @@ held-append (d ∷ ds) ds′ = go (d .act) (d .answer) (held-append ds ds′)
   where
     go : (a : Act) (r : Numbers) → heldFor (ds ++ ds′) ≡ heldOn (heldFor ds) ds′
         → heldFor (record { act = a; answer = r } ∷ (ds ++ ds′)) ≡ heldOn (heldFor (record { act = a; answer = r } ∷ ds)) ds′
-    go (Report h v) r again = again
-    go (Extend n l) r again = again
+    go (Report p) r again = again
+    go (Extend q) r again = again
     go (CallBack p) r again = again
     go Hold r again =
         rw (again, lift-append ds ds′, reports-append ds ds′) (on-hold (heldFor ds) (reportsIn ds) ds′ (hasLift ds) (hasLift ds′) refl)
@@ -59,13 +61,13 @@ held-append (d ∷ ds) ds′ = go (d .act) (d .answer) (held-append ds ds′)
 
 -- ---- all words
 
-module _ (s : Stay) (d : Deed) where
+module _ (σ : Settings) (s : Stay) (d : Deed) where
   abbrev longer : Stay
   longer = withDeeds s (d ∷ [])
 
   head-deed : headOf longer ≡ headBy (headOf s) d
   unfolding headOf
-  head-deed = foldl-append headBy (s .head) (s .deeds) (d ∷ [])
+  head-deed = foldl-append headBy (s .entry .head) (s .deeds) (d ∷ [])
 
   speed-deed : speedOf longer ≡ speedBy (speedOf s) d
   unfolding speedOf
@@ -75,25 +77,19 @@ module _ (s : Stay) (d : Deed) where
   unfolding authorityOf
   authority-deed = foldl-append authorityBy _ (s .deeds) (d ∷ [])
 
-  ordering-deed : orderingOf longer ≡ orderingBy (figuresFor s) (orderingOf s) d
-  unfolding orderingOf figuresFor
-  ordering-deed = foldl-append (orderingBy (figuresFor s)) _ (s .deeds) (d ∷ [])
+  ordering-deed : orderingOf σ longer ≡ orderingBy (brakeOf σ s) (orderingOf σ s) d
+  unfolding orderingOf brakeOf
+  ordering-deed = foldl-append (orderingBy (brakeOf σ s)) _ (s .deeds) (d ∷ [])
 
   pub held-deed : heldFor (longer .deeds) ≡ heldOn (heldFor (s .deeds)) (d ∷ [])
   held-deed = held-append (s .deeds) (d ∷ [])
 
   -- so the record that the stay tells of
-  pub record-deed : recordOf longer ≡ record {
-    id = s .id;
-    length = s .length;
-    figures = figuresFor s;
-    motion = record { head = headBy (headOf s) d; speed = speedBy (speedOf s) d; level = orderingBy (figuresFor s) (orderingOf s) d .level };
-    order = orderingBy (figuresFor s) (orderingOf s) d .order;
-    end = authorityBy (authorityOf s) d .end;
-    held = isHeld (heldOn (heldFor (s .deeds)) (d ∷ []));
-    start = s .start;
-    number = authorityBy (authorityOf s) d .number;
-    asked = authorityBy (authorityOf s) d .asked;
-  }
-  unfolding recordOf figuresFor
-  record-deed = rw (head-deed, speed-deed, authority-deed, endOf, ordering-deed, held-deed)
+  pub record-deed : recordOf σ longer
+      ≡ same (recordOf σ s)
+      (record { head = headBy (headOf s) d; speed = speedBy (speedOf s) d; level = orderingBy (brakeOf σ s) (orderingOf σ s) d .level })
+      (orderingBy (brakeOf σ s) (orderingOf σ s) d .order)
+      (authorityBy (authorityOf s) d)
+      (withHeld freshMarks (isHeld (heldOn (heldFor (s .deeds)) (d ∷ []))))
+  unfolding recordOf brakeOf
+  record-deed = rw (head-deed, speed-deed, authority-deed, ordering-deed, held-deed)

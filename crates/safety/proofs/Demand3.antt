@@ -2,16 +2,19 @@
 -- Assumes nothing.
 use Prim.Native.Nat.{ℕ, _-_, _≤_}
 use mathlib.Core.Option.{Option, none, some}
-use mathlib.Core.List.{List, [], _∷_}
-use mathlib.Core.Path.{_≡_, subst}
+use mathlib.Core.List.{List, [], _∷_, map}
+use mathlib.Core.Path.{_≡_, _∙_, ap, subst}
 use native.Mathlib.Omega.{arith}
 use Rattle.motion.proofs.Slowing.{slowed-stands}
+use Rattle.calls.specs.declared.Opening.{Opening}
 use Rattle.train.specs.declared.Settings.{Settings}
+use Rattle.train.specs.Ranges.{settingsOf}
+use Rattle.train.proofs.Track.{limit-first, in-behind}
 use Rattle.table.specs.declared.Table.{Table}
 use Rattle.calls.specs.declared.Call.{Call}
 use Rattle.calls.specs.declared.Answer.the-variants.{Done}
 use Rattle.line.specs.Step.{outcome, openStep}
-use Rattle.safety.specs.History.{history, Stay, stays, headOf, rearOf, endOf, figuresFor, heldFor}
+use Rattle.safety.specs.History.{history, Stay, stays, headOf, rearOf, endOf, brakeOf, heldFor}
 use Rattle.safety.specs.Claim.{heldReports, Stands, Alone, Separate, Clear, Safe, Claim, recordOf, Demand3}
 use Rattle.safety.proofs.Train.{guarded-head}
 use Rattle.safety.proofs.Holding.{Slowing}
@@ -22,13 +25,13 @@ use Rattle.safety.proofs.Calls.{told}
 module _ (σ : Settings) (ahead : Option Stay) (s : Stay) (t : Steady σ ahead s) where
   head-end : headOf s ≤ endOf s
   unfolding recordOf
-  head-end = guarded-head σ _ (recordOf s) (t .guarded)
+  head-end = guarded-head σ _ (recordOf σ s) (t .guarded)
 
-  held-stands : (n : ℕ) → heldFor (s .deeds) ≡ some n → heldReports σ s ≤ n → Stands s
+  held-stands : (n : ℕ) → heldFor (s .deeds) ≡ some n → heldReports σ s ≤ n → Stands σ s
   unfolding recordOf
   held-stands n e enough =
-      let slowing = subst (Slowing σ (recordOf s)) e (t .slowing) in
-      slowed-stands (figuresFor s) (σ .limits .ceiling) (n - 1) (recordOf s .motion) (t .guarded .figures) (omega arith) (slowing (omega arith) .1)
+      let slowing = subst (Slowing σ (recordOf σ s)) e (t .slowing) in
+      slowed-stands (brakeOf σ s) (σ .limits .ceiling) (n - 1) (recordOf σ s .motion) (t .guarded .figures) (omega arith) (slowing (omega arith) .1)
 
   alone : Alone σ s
   unfolding recordOf
@@ -36,8 +39,8 @@ module _ (σ : Settings) (ahead : Option Stay) (s : Stay) (t : Steady σ ahead s
 
 separate : (σ : Settings) (ahead : Option Stay) (s : Stay) → Steady σ ahead s → Separate σ ahead s
 unfolding recordOf rearOf
-separate σ none s t = t .guarded .end-in-limit
-separate σ (some a) s t = let limit = t .guarded .end-in-limit in omega arith
+separate σ none s t = rw (limit-first σ) at (t .guarded .end-in-limit)
+separate σ (some a) s t = let sum = in-behind σ (recordOf σ a) (endOf s) (t .guarded .end-in-limit) in omega arith
 
 rear-head : (s : Stay) → rearOf s ≤ headOf s
 unfolding rearOf
@@ -58,14 +61,15 @@ safe σ ahead (s ∷ ss) l =
     (alone σ ahead s (l .0), separate σ ahead s (l .0), clear σ s s ss (omega arith) (l .2), safe σ (some s) ss (l .2))
 
 -- for every accepted opening and every list of calls on the table that it made
-pub demand-3 : (σ : Settings) (t : Table) → openStep σ ≡ outcome Done t → (cs : List Call) → Demand3 σ t cs
+pub demand-3 : (o : Opening) (t : Table) → openStep o ≡ outcome Done t → (cs : List Call) → Demand3 o t cs
 unfolding Claim
-demand-3 σ t opened cs =
-    let T = told σ t opened cs in
+demand-3 o t opened cs =
+    let σ = settingsOf o in
+    let T = told o t opened cs in
     let es = history t cs in
     record {
       claim = safe σ none (stays es) (subst (λ (ρ : Settings). Lined ρ none (stays es)) (T .settings) (T .lined));
       settings = T .settings;
       count = told-count σ es _ T;
-      trains = T .trains;
+      trains = T .trains ∙ ap (λ (ρ : Settings). map (recordOf ρ) (stays es)) (T .settings);
     }

@@ -9,4 +9,4 @@ pub mod Told
 pub mod Calls
 pub mod Demand3
 pub mod Bounds
-pub mod Session
+pub mod Worked

@@ -6,10 +6,11 @@ use mathlib.Core.List.{List, [], _∷_, _++_, append-assoc, append-nil}
 use mathlib.Core.Path.{_≡_, refl, sym, _∙_}
 use borrow.Author.Tests.{eq-eqb}
 use Rattle.train.specs.declared.Train.{Train}
-use Rattle.train.specs.declared.Act.{Act}
+use Rattle.calls.specs.declared.Entry.{Entry}
+use Rattle.calls.specs.declared.Act.{Act}
 use Rattle.calls.specs.declared.Call.{Call}
 use Rattle.calls.specs.declared.Call.the-variants.{Enter, Own, TakeOff}
-use Rattle.train.specs.declared.Refusal.{Refusal}
+use Rattle.calls.specs.declared.Refusal.{Refusal}
 use Rattle.calls.specs.declared.Answer.{Answer}
 use Rattle.calls.specs.declared.Answer.the-variants.{Entered, Done, Refused}
 use Rattle.calls.specs.Answers.{numbersOf}
@@ -32,15 +33,15 @@ left-append id (e ∷ es) fs = rw (left-append id es fs, or-assoc)
 
 -- a stay with more deeds
 abbrev pub withDeeds : Stay → List Deed → Stay
-withDeeds s ds = record { id = s .id; head = s .head; length = s .length; load = s .load; start = s .start; deeds = s .deeds ++ ds }
+withDeeds s ds = record { entry = s .entry; deeds = s .deeds ++ ds }
 
 -- a stay without any yet
-abbrev pub newStay : ℕ → ℕ → ℕ → ℕ → ℕ → Stay
-newStay id h l load s = record { id = id; head = h; length = l; load = load; start = s; deeds = [] }
+abbrev pub newStay : Entry → Stay
+newStay e = record { entry = e; deeds = [] }
 
 -- what later events leave of a stay, and of all
 unfoldable pub keptStay : List Event → Stay → List Stay
-keptStay fs s = cond (hasLeft (s .id) fs) [] (withDeeds s (deedsIn (s .id) fs) ∷ [])
+keptStay fs s = cond (hasLeft (s .entry .id) fs) [] (withDeeds s (deedsIn (s .entry .id) fs) ∷ [])
 
 unfoldable pub keptStays : List Event → List Stay → List Stay
 keptStays fs [] = []
@@ -53,13 +54,13 @@ kept-append fs (s ∷ ss) ss′ = rw (kept-append fs ss ss′, append-assoc)
 
 from-append : (c : Call) (es fs : List Event) → stayFrom c (es ++ fs) ≡ keptStays fs (stayFrom c es)
 unfolding stayFrom keptStays keptStay
-from-append (Enter id h l load s) es fs = rw (left-append id es fs, deeds-append id es fs) (go (hasLeft id es))
+from-append (Enter e) es fs = rw (left-append (e .id) es fs, deeds-append (e .id) es fs) (go (hasLeft (e .id) es))
   where
     new : Stay
-    new = newStay id h l load s
+    new = newStay e
 
-    go : (b : Bool) → cond (b || hasLeft id fs) [] (withDeeds new (deedsIn id es ++ deedsIn id fs) ∷ [])
-        ≡ keptStays fs (cond b [] (withDeeds new (deedsIn id es) ∷ []))
+    go : (b : Bool) → cond (b || hasLeft (e .id) fs) [] (withDeeds new (deedsIn (e .id) es ++ deedsIn (e .id) fs) ∷ [])
+        ≡ keptStays fs (cond b [] (withDeeds new (deedsIn (e .id) es) ∷ []))
     go true = refl
     go false = sym (append-nil _)
 from-append (Own id a) es fs = refl
@@ -108,9 +109,9 @@ unfolding stays
 none-begun e q = rw q
 
 module _ (c : Call) (r : Answer) (q : isAccepted (event c r) ≡ true) where
-  pub kept-accepted : (s : Stay) → keptStay (event c r ∷ []) s ≡ cond (takesOff (s .id) c) [] (withDeeds s (deedIn (s .id) c (numbersOf r)) ∷ [])
+  pub kept-accepted : (s : Stay) → keptStay (event c r ∷ []) s ≡ cond (takesOff (s .entry .id) c) [] (withDeeds s (deedIn (s .entry .id) c (numbersOf r)) ∷ [])
   unfolding keptStay hasLeft deedsIn
-  kept-accepted s = rw (q, or-false (takesOff (s .id) c), append-nil (deedIn (s .id) c (numbersOf r)))
+  kept-accepted s = rw (q, or-false (takesOff (s .entry .id) c), append-nil (deedIn (s .entry .id) c (numbersOf r)))
 
   begun : stays (event c r ∷ []) ≡ stayFrom c []
   unfolding stays
@@ -129,13 +130,13 @@ stays-refused es c r =
     stays-append es (e ∷ []) ∙ rw (kept-all e (kept-refused e q) (stays es), none-begun e q, append-nil (stays es))
 
 -- an accepted entering
-pub stays-enter : (es : List Event) (id h l load s full growth : ℕ)
-    → stays (es ++ (event (Enter id h l load s) (Entered full growth h) ∷ [])) ≡ stays es ++ (newStay id h l load s ∷ [])
+pub stays-enter : (es : List Event) (e : Entry) (full growth : ℕ)
+    → stays (es ++ (event (Enter e) (Entered full growth (e .head)) ∷ [])) ≡ stays es ++ (newStay e ∷ [])
 unfolding stayFrom hasLeft deedsIn takesOff deedIn
-stays-enter es id h l load s full growth =
-    let c = Enter id h l load s in
-    let r = Entered full growth h in
-    let q = entered-accepted c full growth h in
+stays-enter es e full growth =
+    let c = Enter e in
+    let r = Entered full growth (e .head) in
+    let q = entered-accepted c full growth (e .head) in
     stays-append es (event c r ∷ [])
     ∙ rw (kept-all (event c r) (λ u. kept-accepted c r q u ∙ rw (append-nil (u .deeds))) (stays es), begun c r q)
 

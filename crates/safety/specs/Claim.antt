@@ -7,26 +7,29 @@ use mathlib.Core.List.{List, [], _∷_, map}
 use lib.ListN.{length}
 use Rattle.motion.specs.Motion.{stands}
 use Rattle.motion.specs.Count.{cyclesToStand}
+use Rattle.calls.specs.declared.Opening.{Opening}
+use Rattle.calls.specs.declared.Call.{Call}
 use Rattle.train.specs.declared.Settings.{Settings}
 use Rattle.train.specs.declared.Train.{Train}
+use Rattle.train.specs.Ranges.{settingsOf}
+use Rattle.train.specs.Record.{trainOf, freshMarks, withHeld}
+use Rattle.train.specs.Track.{stepsOf}
 use Rattle.table.specs.declared.Table.{Table}
-use Rattle.calls.specs.declared.Call.{Call}
 use Rattle.table.specs.Table.{onLine}
-use Rattle.train.specs.Acts.{stepsOf}
-use Rattle.safety.specs.History.{Event, history, after, Stay, stays, headOf, speedOf, rearOf, authorityOf, endOf, figuresFor, orderingOf, heldFor}
+use Rattle.safety.specs.History.{Event, history, after, Stay, stays, headOf, speedOf, rearOf, authorityOf, endOf, brakeOf, orderingOf, heldFor}
 
 -- 1 + B/j + V/B, both rounded up
 abbrev pub heldReports : Settings → Stay → ℕ
-heldReports σ s = 1 + cyclesToStand (figuresFor s) (σ .limits .ceiling)
+heldReports σ s = 1 + cyclesToStand (brakeOf σ s) (σ .limits .ceiling)
 
-abbrev pub Stands : Stay → Type 0
-Stands s = stands (figuresFor s) (speedOf s) (orderingOf s .level) ≡ true
+abbrev pub Stands : Settings → Stay → Type 0
+Stands σ s = stands (brakeOf σ s) (speedOf s) (orderingOf σ s .level) ≡ true
 
 -- of each train by itself: its rear is on the line, its head is at or before its end, and held with so many reports it stands
 pub record Alone (σ : Settings) (s : Stay) : Type 0 where
-  pub rear-on-line : stepsOf (s .length) ≤ headOf s
+  pub rear-on-line : stepsOf (s .entry .length) ≤ headOf s
   pub head-within-end : headOf s ≤ endOf s
-  pub held-stands : (n : ℕ) → heldFor (s .deeds) ≡ some n → heldReports σ s ≤ n → Stands s
+  pub held-stands : (n : ℕ) → heldFor (s .deeds) ≡ some n → heldReports σ s ≤ n → Stands σ s
 
 -- its end lies at least the safety distance behind the rear ahead; that of the first train is at most the line end
 abbrev pub Separate : Settings → Option Stay → Stay → Type 0
@@ -52,25 +55,16 @@ abbrev pub isHeld : Option ℕ → Bool
 isHeld none = false
 isHeld (some n) = true
 
--- the record of a train on the line, field by field
-unfoldable pub recordOf : Stay → Train
-recordOf s = record {
-  id = s .id;
-  length = s .length;
-  figures = figuresFor s;
-  motion = record { head = headOf s; speed = speedOf s; level = orderingOf s .level };
-  order = orderingOf s .order;
-  end = endOf s;
-  held = isHeld (heldFor (s .deeds));
-  start = s .start;
-  number = authorityOf s .number;
-  asked = authorityOf s .asked;
-}
+-- the record of a train on the line, part by part
+unfoldable pub recordOf : Settings → Stay → Train
+recordOf σ s =
+    trainOf (s .entry .id) (s .entry .length) (brakeOf σ s) (record { head = headOf s; speed = speedOf s; level = orderingOf σ s .level })
+    (orderingOf σ s .order) (authorityOf s) (withHeld freshMarks (isHeld (heldFor (s .deeds))))
 
--- Demand 3 for one list of calls on the table t that an opening with settings σ made: the claim holds of the history, and the
--- table after it is what the history tells (proofs/Demand3: demand-3).
-pub record Demand3 (σ : Settings) (t : Table) (cs : List Call) : Type 0 where
-  pub claim : Claim σ (history t cs)
-  pub settings : after t cs .settings ≡ σ
+-- Demand 3 for one list of calls on the table t that the opening o made: the claim holds of the history, and the table after it is what
+-- the history tells (proofs/Demand3: demand-3).
+pub record Demand3 (o : Opening) (t : Table) (cs : List Call) : Type 0 where
+  pub claim : Claim (settingsOf o) (history t cs)
+  pub settings : after t cs .settings ≡ settingsOf o
   pub count : after t cs .count ≡ length (stays (history t cs))
-  pub trains : onLine (after t cs) ≡ map recordOf (stays (history t cs))
+  pub trains : onLine (after t cs) ≡ map (recordOf (settingsOf o)) (stays (history t cs))

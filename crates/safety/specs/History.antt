@@ -7,18 +7,21 @@ use lib.Dec.{eqb}
 use Rattle.brake.specs.declared.Figures.{Figures}
 use Rattle.brake.specs.declared.FiguresFound.{FiguresFound}
 use Rattle.brake.specs.declared.FiguresFound.the-variants.{Given, NoFigures}
-use Rattle.brake.specs.Consist.{figuresOf}
 use Rattle.motion.specs.declared.Order.{Order}
 use Rattle.motion.specs.declared.Order.the-variants.{Drive, Brake}
 use Rattle.motion.specs.Motion.{nextLevel, releasedLevel}
-use Rattle.table.specs.declared.Table.{Table}
-use Rattle.train.specs.declared.Act.{Act}
-use Rattle.train.specs.declared.Act.the-variants.{Report, Extend, CallBack, Hold, Lift}
+use Rattle.calls.specs.declared.Entry.{Entry}
+use Rattle.calls.specs.declared.Act.{Act}
+use Rattle.calls.specs.declared.Act.the-variants.{Report, Extend, CallBack, Hold, Lift}
 use Rattle.calls.specs.declared.Call.{Call}
 use Rattle.calls.specs.declared.Call.the-variants.{Enter, Own, TakeOff}
 use Rattle.calls.specs.declared.Numbers.{Numbers}
-use Rattle.train.specs.Acts.{stepsOf}
 use Rattle.calls.specs.Answers.{numbersOf}
+use Rattle.train.specs.declared.Settings.{Settings}
+use Rattle.train.specs.declared.Authority.{Authority}
+use Rattle.train.specs.Record.{figuresFor}
+use Rattle.train.specs.Track.{stepsOf}
+use Rattle.table.specs.declared.Table.{Table}
 use Rattle.line.specs.Step.{step}
 
 -- a call with its answer: the number and the three values
@@ -47,7 +50,7 @@ pub record Deed : Type 0 where
   pub answer : Numbers
 
 unfoldable pub deedIn : ℕ → Call → Numbers → List Deed
-deedIn id (Enter i h l load s) r = []
+deedIn id (Enter e) r = []
 deedIn id (Own i a) r = cond (eqb id i) (record { act = a; answer = r } ∷ []) []
 deedIn id (TakeOff i) r = []
 
@@ -57,7 +60,7 @@ deedsIn id [] = []
 deedsIn id (e ∷ es) = cond (isAccepted e) (deedIn id (e .call) (e .answer)) [] ++ deedsIn id es
 
 unfoldable pub takesOff : ℕ → Call → Bool
-takesOff id (Enter i h l load s) = false
+takesOff id (Enter e) = false
 takesOff id (Own i a) = false
 takesOff id (TakeOff i) = eqb id i
 
@@ -68,17 +71,12 @@ hasLeft id (e ∷ es) = (isAccepted e && takesOff id (e .call)) || hasLeft id es
 
 -- a stay: what was entered, and the train's accepted acts since
 pub record Stay : Type 0 where
-  pub id : ℕ
-  pub head : ℕ
-  pub length : ℕ
-  pub load : ℕ
-  pub start : ℕ
+  pub entry : Entry
   pub deeds : List Deed
 
 -- the stay that an accepted call begins, unless a later event ends it
 unfoldable pub stayFrom : Call → List Event → List Stay
-stayFrom (Enter i h l load s) es =
-    cond (hasLeft i es) [] (record { id = i; head = h; length = l; load = load; start = s; deeds = deedsIn i es } ∷ [])
+stayFrom (Enter e) es = cond (hasLeft (e .id) es) [] (record { entry = e; deeds = deedsIn (e .id) es } ∷ [])
 stayFrom (Own i a) es = []
 stayFrom (TakeOff i) es = []
 
@@ -92,56 +90,51 @@ stays (e ∷ es) = cond (isAccepted e) (stayFrom (e .call) es) [] ++ stays es
 
 -- those of the last accepted report or, before the first one, the entering head and 0
 abbrev pub headBy : ℕ → Deed → ℕ
-headBy x d = elim (d .act) [ Report h v ↦ h | Extend n l ↦ x | CallBack p ↦ x | Hold ↦ x | Lift ↦ x ]
+headBy x d = elim (d .act) [ Report r ↦ r .head | Extend q ↦ x | CallBack p ↦ x | Hold ↦ x | Lift ↦ x ]
 
 unfoldable pub headOf : Stay → ℕ
-headOf s = foldl headBy (s .head) (s .deeds)
+headOf s = foldl headBy (s .entry .head) (s .deeds)
 
 abbrev pub speedBy : ℕ → Deed → ℕ
-speedBy x d = elim (d .act) [ Report h v ↦ v | Extend n l ↦ x | CallBack p ↦ x | Hold ↦ x | Lift ↦ x ]
+speedBy x d = elim (d .act) [ Report r ↦ r .speed | Extend q ↦ x | CallBack p ↦ x | Hold ↦ x | Lift ↦ x ]
 
 unfoldable pub speedOf : Stay → ℕ
 speedOf s = foldl speedBy 0 (s .deeds)
 
 -- the length is the entered one
 unfoldable pub rearOf : Stay → ℕ
-rearOf s = headOf s - stepsOf (s .length)
+rearOf s = headOf s - stepsOf (s .entry .length)
 
 -- ---- the end of authority
-
--- number and length of the last accepted extension, and the end
-pub record Authority : Type 0 where
-  pub number : ℕ
-  pub asked : ℕ
-  pub end : ℕ
 
 -- A new number adds its length, and the last one again adds none; a call back names the new end.
 abbrev pub authorityBy : Authority → Deed → Authority
 authorityBy x d =
     elim (d .act) [
-      | Report h v ↦ x
-      | Extend n l ↦ cond (eqb n (x .number)) x (record { number = n; asked = l; end = x .end + l })
-      | CallBack p ↦ record { number = x .number; asked = x .asked; end = p }
+      | Report r ↦ x
+      | Extend q ↦ cond (eqb (q .number) (x .number)) x (record { end = x .end + q .length; start = x .start; number = q .number; asked = q .length })
+      | CallBack p ↦ record { end = p; start = x .start; number = x .number; asked = x .asked }
       | Hold ↦ x
       | Lift ↦ x
     ]
 
 -- the entering head at first
 unfoldable pub authorityOf : Stay → Authority
-authorityOf s = foldl authorityBy (record { number = s .start; asked = 0; end = s .head }) (s .deeds)
+authorityOf s =
+    foldl authorityBy (record { end = s .entry .head; start = s .entry .start; number = s .entry .start; asked = 0 }) (s .deeds)
 
 abbrev pub endOf : Stay → ℕ
 endOf s = authorityOf s .end
 
 -- ---- figures, last order, level
 
--- by load class and length; no entering is accepted that has none
+-- those of the entering; no entering is accepted that has none
 abbrev pub figuresIn : FiguresFound → Figures
 figuresIn (Given k) = k
 figuresIn NoFigures = record { full = 0; growth = 0 }
 
-unfoldable pub figuresFor : Stay → Figures
-figuresFor s = figuresIn (figuresOf (s .load) (s .length))
+unfoldable pub brakeOf : Settings → Stay → Figures
+brakeOf σ s = figuresIn (figuresFor σ (s .entry))
 
 -- the level that a brake in the coming cycle has: 0 after a driven cycle, the next level after a braked one
 abbrev pub levelAfter : Figures → Order → ℕ → ℕ
@@ -159,34 +152,34 @@ orderIn r = cond (eqb (r .first) 1) (Drive (r .second)) Brake
 abbrev pub orderingBy : Figures → Ordering → Deed → Ordering
 orderingBy k x d =
     elim (d .act) [
-      | Report h v ↦ record { order = orderIn (d .answer); level = levelAfter k (x .order) (x .level) }
-      | Extend n l ↦ x
+      | Report r ↦ record { order = orderIn (d .answer); level = levelAfter k (x .order) (x .level) }
+      | Extend q ↦ x
       | CallBack p ↦ x
       | Hold ↦ x
       | Lift ↦ x
     ]
 
 -- before the first report: brake, at full level
-unfoldable pub orderingOf : Stay → Ordering
-orderingOf s = foldl (orderingBy (figuresFor s)) (record { order = Brake; level = figuresFor s .full }) (s .deeds)
+unfoldable pub orderingOf : Settings → Stay → Ordering
+orderingOf σ s = foldl (orderingBy (brakeOf σ s)) (record { order = Brake; level = brakeOf σ s .full }) (s .deeds)
 
 -- ---- held
 
 unfoldable pub hasLift : List Deed → Bool
 hasLift [] = false
-hasLift (d ∷ ds) = elim (d .act) [ Report h v ↦ false | Extend n l ↦ false | CallBack p ↦ false | Hold ↦ false | Lift ↦ true ] || hasLift ds
+hasLift (d ∷ ds) = elim (d .act) [ Report r ↦ false | Extend q ↦ false | CallBack p ↦ false | Hold ↦ false | Lift ↦ true ] || hasLift ds
 
 unfoldable pub reportsIn : List Deed → ℕ
 reportsIn [] = 0
-reportsIn (d ∷ ds) = elim (d .act) [ Report h v ↦ 1 | Extend n l ↦ 0 | CallBack p ↦ 0 | Hold ↦ 0 | Lift ↦ 0 ] + reportsIn ds
+reportsIn (d ∷ ds) = elim (d .act) [ Report r ↦ 1 | Extend q ↦ 0 | CallBack p ↦ 0 | Hold ↦ 0 | Lift ↦ 0 ] + reportsIn ds
 
 -- Held: a hold with no lift afterwards. The reports are counted from the first such hold.
 unfoldable pub heldFor : List Deed → Option ℕ
 heldFor [] = none
 heldFor (d ∷ ds) =
     elim (d .act) [
-      | Report h v ↦ heldFor ds
-      | Extend n l ↦ heldFor ds
+      | Report r ↦ heldFor ds
+      | Extend q ↦ heldFor ds
       | CallBack p ↦ heldFor ds
       | Hold ↦ cond (hasLift ds) (heldFor ds) (some (reportsIn ds))
       | Lift ↦ heldFor ds

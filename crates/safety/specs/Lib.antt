@@ -1,3 +1,3 @@
 pub mod History
 pub mod Claim
-pub mod Session
+pub mod Worked

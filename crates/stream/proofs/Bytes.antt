@@ -8,7 +8,7 @@ use lib.ListN.{length, take, drop, getD, set, length-append, List·getD-append}
 use lib.Seq.{take-suc-set, take-all, take-at, length-take-le, getD-at, drop-drop, paste, paste-suc, length-paste, take-paste, drop-paste}
 use lib.Dec.{leb}
 use borrow.Author.Tests.{le-leb, lt-leb}
-use Rattle.brake.proofs.Tests.{by-test}
+use Rattle.logic.proofs.Tests.{by-test}
 use Rattle.calls.specs.declared.Numbers.{Numbers}
 use Rattle.calls.specs.Answers.{numbers}
 use Rattle.wire.specs.Format.{answerWidth}

@@ -9,9 +9,9 @@ use lib.ListN.{length, take, drop, getD, length-take, take-append-drop}
 use lib.Seq.{take-all, take-take, length-take-le, drop-cons}
 use native.Mathlib.Numerals.{add-one}
 use borrow.Author.Tests.{eq-eqb, ne-eqb, eqb-true, eqb-false, leb-true, leb-false}
-use Rattle.brake.proofs.Tests.{by-test}
+use Rattle.logic.proofs.Tests.{by-test}
 use Rattle.wire.specs.Format.{callWidth, lineRead}
-use Rattle.wire.specs.declared.LineRead.{LineRead}
+use Rattle.calls.specs.declared.RequestRead.{RequestRead}
 use Rattle.stream.specs.declared.Session.{Session}
 use Rattle.stream.specs.declared.Reply.{Reply}
 use Rattle.stream.specs.declared.Stream.{Stream}
@@ -71,7 +71,7 @@ standing-kept s g w (b ∷ bs) =
     (λ e.
     let h : b ≡ 10 = eqb-true b 10 e in
     standing-line s (kept g) w b bs h
-    ∙ ap (λ (r : LineRead). standing (replyTo s r .session) [] (w ++ outputLine (replyTo s r .answer)) bs) (read-kept g)
+    ∙ ap (λ (r : RequestRead). standing (replyTo s r .session) [] (w ++ outputLine (replyTo s r .answer)) bs) (read-kept g)
     ∙ sym (standing-line s g w b bs h))
     (λ e.
     let h : (b ≡ 10 → ⊥) = eqb-false b 10 e in

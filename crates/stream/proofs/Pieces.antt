@@ -7,7 +7,7 @@ use lib.Dec.{eqb}
 use lib.ListN.{length, take}
 use lib.Seq.{take-at}
 use borrow.Author.Tests.{le-leb}
-use Rattle.brake.proofs.Tests.{by-test}
+use Rattle.logic.proofs.Tests.{by-test}
 use Rattle.stream.specs.declared.Session.{Session}
 use Rattle.stream.specs.declared.Stream.{Stream}
 use Rattle.stream.specs.Session.{closed, answered}

@@ -3,14 +3,15 @@ use Prim.Native.Nat.{ℕ}
 use mathlib.Core.Bool.{Bool, true, false, cond}
 use mathlib.Core.List.{List}
 use lib.Dec.{eqb}
+use Rattle.calls.specs.declared.Request.{Request}
+use Rattle.calls.specs.declared.Request.the-variants.{Open, OnTable}
+use Rattle.calls.specs.declared.RequestRead.{RequestRead}
+use Rattle.calls.specs.declared.RequestRead.the-variants.{Read, Unreadable}
 use Rattle.calls.specs.declared.Numbers.{Numbers}
 use Rattle.calls.specs.Answers.{numbers, numbersOf}
 use Rattle.table.specs.declared.Table.{Table}
-use Rattle.table.specs.Table.{emptyTable}
 use Rattle.line.specs.declared.Outcome.{Outcome}
-use Rattle.line.specs.Step.{noSettings, openStep, step}
-use Rattle.wire.specs.declared.LineRead.{LineRead}
-use Rattle.wire.specs.declared.LineRead.the-variants.{Opening, Calling, Unreadable}
+use Rattle.line.specs.Step.{noTable, openStep, step}
 use Rattle.wire.specs.Format.{lineRead}
 use Rattle.stream.specs.declared.Session.{Session}
 use Rattle.stream.specs.declared.Reply.{Reply}
@@ -20,7 +21,7 @@ abbrev pub session : Bool → Table → Session
 session o t = record { opened = o; table = t }
 
 abbrev pub closed : Session
-closed = session false (emptyTable noSettings)
+closed = session false noTable
 
 abbrev pub reply : Numbers → Session → Reply
 reply a s = record { answer = a; session = s }
@@ -37,11 +38,15 @@ openReply s o = reply (numbersOf (o .answer)) (cond (eqb (numbersOf (o .answer) 
 abbrev pub callReply : Outcome → Reply
 callReply o = reply (numbersOf (o .answer)) (session true (o .table))
 
--- 1 line unreadable; 2 call before an accepted opening, or an opening after one; then the call's own answer
-unfoldable pub replyTo : Session → LineRead → Reply
+-- 2 call before an accepted opening, or an opening after one; then the call's own answer
+unfoldable pub requestReply : Session → Request → Reply
+requestReply s (Open o) = cond (s .opened) (turnedDown 2 s) (openReply s (openStep o))
+requestReply s (OnTable c) = cond (s .opened) (callReply (step (s .table) c)) (turnedDown 2 s)
+
+-- 1 line unreadable
+abbrev pub replyTo : Session → RequestRead → Reply
+replyTo s (Read r) = requestReply s r
 replyTo s Unreadable = turnedDown 1 s
-replyTo s (Opening σ) = cond (s .opened) (turnedDown 2 s) (openReply s (openStep σ))
-replyTo s (Calling c) = cond (s .opened) (callReply (step (s .table) c)) (turnedDown 2 s)
 
 -- the answer to a line without its line feed
 abbrev pub answered : Session → List ℕ → Reply

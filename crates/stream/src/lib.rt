@@ -6,14 +6,14 @@ ghost use Prim.Native.Nat.{_+_, _*_, _≤_};
 ghost use lib.ListN.{length, take};
 ghost use lib.Seq.{paste};
 ghost use Rattle.calls.specs.Answers.{numbers};
-ghost use Rattle.wire.specs.declared.LineRead.the-variants.{Opening, Calling};
-ghost use Rattle.stream.specs.Session.{closed, turnedDown, replyTo, answered};
+ghost use Rattle.stream.specs.Session.{closed, turnedDown, requestReply, answered};
 ghost use Rattle.stream.specs.Input.{outputLine, begun, keptWidth, kept, outputWidth, over, lastWritten, Taken, FeedPromise};
 use calls::Call;
 use calls::Numbers;
+use calls::Opening;
+use calls::Request;
+use calls::RequestRead;
 use table::Table;
-use train::Settings;
-use wire::LineRead;
 
 // The bytes that are kept of a line. One more than a call has: enough to tell that the line is too long.
 const KEPT_WIDTH: usize = wire::CALL_WIDTH + 1;
@@ -72,13 +72,13 @@ fn turn_down(s: Session, n: u64) -> Reply
 }
 
 // An opening: 2 after an accepted one.
-fn answer_opening(s: Session, settings: Settings) -> Reply
-    ensures { λ r. ⌜ r ≡ replyTo s (Opening settings) ⌝ }
+fn answer_opening(s: Session, given: Opening) -> Reply
+    ensures { λ r. ⌜ r ≡ requestReply s (Request.Open given) ⌝ }
 {
     if s.opened {
         return turn_down(s, 2);
     }
-    let o = line::open(settings);
+    let o = line::open(given);
     let a = o.answer;
     let table = o.table;
     let n = calls::numbers_of(a);
@@ -99,7 +99,7 @@ fn answer_opening(s: Session, settings: Settings) -> Reply
 
 // A call on the table: 2 before an accepted opening.
 fn answer_call(s: Session, call: Call) -> Reply
-    ensures { λ r. ⌜ r ≡ replyTo s (Calling call) ⌝ }
+    ensures { λ r. ⌜ r ≡ requestReply s (Request.OnTable call) ⌝ }
 {
     if !s.opened {
         return turn_down(s, 2);
@@ -116,15 +116,23 @@ fn answer_call(s: Session, call: Call) -> Reply
     }
 }
 
+fn answer_request(s: Session, r: Request) -> Reply
+    ensures { λ o. ⌜ o ≡ requestReply s r ⌝ }
+{
+    match r {
+        Request::Open(given) => answer_opening(s, given),
+        Request::OnTable(call) => answer_call(s, call),
+    }
+}
+
 // Answers a line, given without its line feed.
 pub fn answer(s: Session, line: &[u8]) -> Reply
     ensures { λ r. ⌜ r ≡ answered s (now (line .entry)) ⌝ }
 {
     let read = wire::read_line(line);
     match read {
-        LineRead::Opening(settings) => answer_opening(s, settings),
-        LineRead::Calling(call) => answer_call(s, call),
-        LineRead::Unreadable => turn_down(s, 1),
+        RequestRead::Read(r) => answer_request(s, r),
+        RequestRead::Unreadable => turn_down(s, 1),
     }
 }
 

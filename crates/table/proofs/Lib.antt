@@ -1,3 +1,3 @@
 pub mod Places
 pub mod Trains
-pub mod Limit
+pub mod Ahead

@@ -1,6 +1,6 @@
 -- Laws of the places of a table: where a train is found, and how the others move up.
 -- Assumes nothing.
-use Prim.Native.Nat.{ℕ, suc, min, _+_, _≤_, _<_}
+use Prim.Native.Nat.{ℕ, zero, suc, min, _+_, _≤_, _<_}
 use mathlib.Core.Bool.{false}
 use mathlib.Core.List.{List, [], _∷_, _++_, map}
 use mathlib.Core.Logic.{_⊎_, ⊎-elim, by-cases}
@@ -10,14 +10,14 @@ use native.Mathlib.Numerals.{add-one}
 use native.Mathlib.Omega.{arith}
 use lib.Dec.{eqb}
 use lib.ListN.{length, take, drop, getD, set, length-take, length-drop, length-map, drop-of-length-le}
-use lib.Seq.{drop-cons, getD-take, getD-drop, take-nil, take-suc, take-all, set-at, append-snoc, length-take-le}
+use lib.Seq.{drop-cons, getD-take, getD-drop, getD-set-same, take-nil, take-suc, take-all, take-set-lt, set-at, append-snoc, length-take-le}
 use borrow.Author.Tests.{eq-eqb, ne-eqb}
-use Rattle.brake.proofs.Tests.{by-test}
+use Rattle.logic.proofs.Tests.{by-test}
 use Rattle.train.specs.declared.Train.{Train}
 use Rattle.table.specs.declared.Table.{Table}
 use Rattle.table.specs.declared.Found.{Found}
 use Rattle.table.specs.declared.Found.the-variants.{At, Nothing}
-use Rattle.table.specs.Table.{blankTrain, onLine, placeIn, findOf, isFound, trainAt}
+use Rattle.table.specs.Table.{blankTrain, onLine, placeIn, findOf, isFound, trainAt, withTrain}
 
 -- what is known of a parameter's array speaks of the list mapped to the elements' machine form
 pub long : (X : Type 0) (f : Train → X) (l : List Train) (n : ℕ) → length (map f l) ≡ n → length l ≡ n
@@ -125,3 +125,27 @@ module _ (l : List Train) (size : length l ≡ 32) where
     up-last =
         rw (all-taken, all-dropped, drop-take i l, drop-cons l i blankTrain (omega arith))
         (set-at (take i (drop 1 l)) (getD l i blankTrain) (drop (suc i) l) blankTrain i (length-take-le i (drop 1 l) (omega (arith, behind-long))))
+
+-- ---- another record of the same train
+
+-- the search sees ids only
+place-same : (xs : List Train) (k id i : ℕ) (y : Train) → y .id ≡ getD xs k blankTrain .id → placeIn (set xs k y) id i ≡ placeIn xs id i
+unfolding placeIn
+place-same [] k id i y e = refl
+place-same (x ∷ xs) zero id i y e = rw e
+place-same (x ∷ xs) (suc k) id i y e = rw (place-same xs k id (suc i) y e)
+
+-- so each train is found where it was
+pub still-found : (t : Table) (i : ℕ) (y : Train) → i < t .count → y .id ≡ trainAt t i .id → (id : ℕ) → findOf (withTrain t i y) id ≡ findOf t id
+unfolding findOf
+still-found t i y below same id =
+    let here : y .id ≡ getD (onLine t) i blankTrain .id =
+    same ∙ ap (λ (u : Train). u .id) (sym (getD-take (t .count) (t .trains) i blankTrain below)) in
+    rw (take-set-lt (t .count) (t .trains) i y below) (place-same (onLine t) i id 0 y here)
+
+-- and what was put at its place stands there
+pub still-there : (t : Table) (id i : ℕ) (y : Train) → findOf t id ≡ At i → trainAt (withTrain t i y) i ≡ y
+still-there t id i y found =
+    let below = found-among t id i found in
+    let size = length-take (t .count) (t .trains) in
+    getD-set-same (t .trains) i y blankTrain (omega arith)

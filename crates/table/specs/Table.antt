@@ -8,24 +8,17 @@ use lib.ListN.{getD, set, take, drop, replicate}
 use Rattle.motion.specs.declared.Order.the-variants.{Drive}
 use Rattle.train.specs.declared.Settings.{Settings}
 use Rattle.train.specs.declared.Train.{Train}
+use Rattle.train.specs.declared.Limit.{Limit}
+use Rattle.train.specs.Record.{trainOf, freshAuthority, freshMarks}
+use Rattle.train.specs.Track.{limitBehind}
 use Rattle.table.specs.declared.Table.{Table}
 use Rattle.table.specs.declared.Found.{Found}
 use Rattle.table.specs.declared.Found.the-variants.{At, Nothing}
 
 -- a place without a train: zeros, and drive with cap 0
 abbrev pub blankTrain : Train
-blankTrain = record {
-  id = 0;
-  length = 0;
-  figures = record { full = 0; growth = 0 };
-  motion = record { head = 0; speed = 0; level = 0 };
-  order = Drive 0;
-  end = 0;
-  held = false;
-  start = 0;
-  number = 0;
-  asked = 0;
-}
+blankTrain =
+    trainOf 0 0 (record { full = 0; growth = 0 }) (record { head = 0; speed = 0; level = 0 }) (Drive 0) (freshAuthority 0 0) freshMarks
 
 abbrev pub places : ℕ
 places = 32
@@ -57,6 +50,10 @@ trainAt t i = getD (t .trains) i blankTrain
 unfoldable pub aheadOf : Table → ℕ → Option Train
 aheadOf t zero = none
 aheadOf t (suc i) = some (trainAt t i)
+
+-- the limit of the train at place i
+abbrev pub limitAt : Table → ℕ → Limit
+limitAt t i = limitBehind (t .settings) (aheadOf t i)
 
 -- another record for the train at place i
 abbrev pub withTrain : Table → ℕ → Train → Table

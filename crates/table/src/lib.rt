@@ -1,18 +1,19 @@
 // The table of trains: 32 places, by value.
 ghost use mathlib.Core.Path.{_≡_};
-ghost use mathlib.Core.Bool.{true};
-ghost use Prim.Native.Nat.{min, _+_, _-_, _^_, _<_};
-ghost use Rattle.train.specs.Acts.{withinLimit};
-ghost use Rattle.table.specs.Table.{blankTrain, emptyTable, findOf, trainAt, aheadOf, withTrain, withLast, withoutFirst};
+ghost use Prim.Native.Nat.{min, _-_, _<_};
+ghost use Rattle.table.specs.Table.{places, blankTrain, emptyTable, findOf, trainAt, limitAt, withTrain, withLast, withoutFirst};
 use brake::Figures;
 use motion::Motion;
 use motion::Order;
+use train::Limit;
 use train::Settings;
 use train::Train;
 
+pub const PLACES: usize = 32;
+
 // The trains on the line are the first `count` records, front train first.
 pub struct Table {
-    pub trains: [Train; 32],
+    pub trains: [Train; PLACES],
     pub settings: Settings,
     pub count: usize,
 }
@@ -37,11 +38,8 @@ fn blank_train() -> Train
             level: 0,
         },
         order: Order::Drive(0),
-        end: 0,
-        held: false,
-        start: 0,
-        number: 0,
-        asked: 0,
+        authority: train::fresh_authority(0, 0),
+        marks: train::fresh_marks(),
     }
 }
 
@@ -50,7 +48,7 @@ pub fn empty_table(s: Settings) -> Table
 {
     let blank = blank_train();
     Table {
-        trains: [blank; 32],
+        trains: [blank; PLACES],
         settings: s,
         count: 0,
     }
@@ -62,7 +60,7 @@ pub fn find(t: Table, id: u64) -> Found
 {
     let n = t.count;
     let mut i: usize = 0;
-    while i < 32 {
+    while i < PLACES {
         if n <= i {
             return Found::Nothing;
         }
@@ -78,7 +76,7 @@ pub fn find(t: Table, id: u64) -> Found
 pub fn train_at(t: Table, i: usize) -> Train
     ensures { λ r. ⌜ r ≡ trainAt t i ⌝ }
 {
-    if i < 32 {
+    if i < PLACES {
         return t.trains[i];
     }
     blank_train()
@@ -88,7 +86,7 @@ pub fn train_at(t: Table, i: usize) -> Train
 pub fn with_train(t: Table, i: usize, x: Train) -> Table
     ensures { λ r. ⌜ r ≡ withTrain t i x ⌝ }
 {
-    if i < 32 {
+    if i < PLACES {
         let mut u = t;
         u.trains[i] = x;
         return u;
@@ -98,7 +96,7 @@ pub fn with_train(t: Table, i: usize, x: Train) -> Table
 
 // A train enters behind the last.
 pub fn with_last(t: Table, x: Train) -> Table
-    requires { ⌜ t .count < 32 ⌝ }
+    requires { ⌜ t .count < places ⌝ }
     ensures { λ r. ⌜ r ≡ withLast t x ⌝ }
 {
     let n = t.count;
@@ -111,12 +109,12 @@ pub fn with_last(t: Table, x: Train) -> Table
 // The place of the last of n trains.
 fn last_place(n: usize) -> usize
     requires { ⌜ 0 < n ⌝ }
-    ensures { λ r. ⌜ r ≡ min n 32 - 1 ⌝ }
+    ensures { λ r. ⌜ r ≡ min n places - 1 ⌝ }
 {
-    if n < 32 {
+    if n < PLACES {
         return n - 1;
     }
-    31
+    PLACES - 1
 }
 
 // The first train gone: the others move up, and the place of the last is blank.
@@ -137,14 +135,14 @@ pub fn without_first(t: Table) -> Table
     u
 }
 
-// Whether the place end + more is within the limit of the train at place i; then the sum fits.
-pub fn within_limit(t: Table, i: usize, end: u64, more: u64) -> bool
-    ensures { λ r. ⌜ (r ≡ withinLimit (t .settings) (aheadOf t i) (end + more)) × (r ≡ true → end + more < 2 ^ 64) ⌝ }
+// The limit of the train at place i.
+pub fn limit_at(t: Table, i: usize) -> Limit
+    ensures { λ r. ⌜ r ≡ limitAt t i ⌝ }
 {
     let s = t.settings;
     if i == 0 {
-        return train::within_line(s, end, more);
+        return Limit::Place(s.end);
     }
     let ahead = train_at(t, i - 1);
-    train::within_behind(s, ahead, end, more)
+    train::limit_behind(s, ahead)
 }

@@ -1,5 +1,4 @@
-pub mod Ranges
-pub mod Limit
+pub mod Track
 pub mod Records
 pub mod Acts
 pub mod Checks

@@ -1,100 +1,58 @@
--- Document 01, "Authorities": limit, and what each call does to a train record.
-use Prim.Native.Nat.{ℕ, _+_, _*_}
+-- Document 01, "Authorities": what each call does to the train that it names.
+use Prim.Native.Nat.{ℕ, _+_}
 use mathlib.Core.Bool.{Bool, true, false, cond, _&&_, _||_}
-use mathlib.Core.Option.{Option, none, some}
 use lib.Dec.{leb, ltb, eqb}
-use Rattle.brake.specs.declared.Figures.{Figures}
+use Rattle.ranges.specs.Ranges.{between}
 use Rattle.motion.specs.declared.Order.{Order}
 use Rattle.motion.specs.declared.Order.the-variants.{Drive, Brake}
 use Rattle.motion.specs.Motion.{stands}
+use Rattle.calls.specs.declared.Asked.{Asked}
+use Rattle.calls.specs.declared.Act.{Act}
+use Rattle.calls.specs.declared.Act.the-variants.{Report, Extend, CallBack, Hold, Lift}
 use Rattle.train.specs.declared.Settings.{Settings}
+use Rattle.train.specs.declared.Authority.{Authority}
 use Rattle.train.specs.declared.Train.{Train}
-use Rattle.train.specs.declared.Act.{Act}
-use Rattle.train.specs.declared.Act.the-variants.{Report, Extend, CallBack, Hold, Lift}
-use Rattle.train.specs.Ranges.{between}
+use Rattle.train.specs.Record.{authorised, marked, withHeld}
 use Rattle.train.specs.Report.{reachOf, reported, computable}
 
--- feet in steps of 50 nm
-unfoldable pub stepsOf : ℕ → ℕ
-stepsOf feet = 6096000 * feet
+-- a request whose number is at or below the starting number, or below the last accepted
+unfoldable pub isOld : Authority → Asked → Bool
+isOld a q = leb (q .number) (a .start) || ltb (q .number) (a .number)
 
--- A place is within the limit of the train behind `ahead`: at most the rear of the train ahead minus the safety distance; for
--- the first train, at most the line end. The rear is the head minus the length. (As a sum: nothing is within a limit below 0.)
-unfoldable pub withinLimit : Settings → Option Train → ℕ → Bool
-withinLimit σ none place = leb place (σ .end)
-withinLimit σ (some a) place = leb (place + σ .safety + stepsOf (a .length)) (a .motion .head)
+-- the last accepted number again
+unfoldable pub isRepeat : Authority → Asked → Bool
+isRepeat a q = eqb (q .number) (a .number)
 
--- Enter: standing; end = head, order brake, level B, not held, and a starting request number
-abbrev pub entering : ℕ → ℕ → ℕ → Figures → ℕ → Train
-entering id h l k s = record {
-  id = id;
-  length = l;
-  figures = k;
-  motion = record { head = h; speed = 0; level = k .full };
-  order = Brake;
-  end = h;
-  held = false;
-  start = s;
-  number = s;
-  asked = 0;
-}
+-- Extend: a new number adds the length
+abbrev pub granted : Authority → Asked → Authority
+granted a q = record { end = a .end + q .length; start = a .start; number = q .number; asked = q .length }
 
--- another end, request number and length asked for
-abbrev pub authorised : Train → ℕ → ℕ → ℕ → Train
-authorised x e n l = record {
-  id = x .id;
-  length = x .length;
-  figures = x .figures;
-  motion = x .motion;
-  order = x .order;
-  end = e;
-  held = x .held;
-  start = x .start;
-  number = n;
-  asked = l;
-}
-
--- Extend: the last accepted number again is a repeat, and changes nothing; a new number adds the length
-unfoldable pub isRepeat : Train → ℕ → Bool
-isRepeat x n = eqb n (x .number)
-
-unfoldable pub extended : Train → ℕ → ℕ → Train
-extended x n l = cond (isRepeat x n) x (authorised x (x .end + l) n l)
-
--- a number at or below the starting number, or below the last accepted
-unfoldable pub isOld : Train → ℕ → Bool
-isOld x n = leb n (x .start) || ltb n (x .number)
+-- a repeat changes nothing
+unfoldable pub extended : Train → Asked → Train
+extended x q = cond (isRepeat (x .authority) q) x (authorised x (granted (x .authority) q))
 
 -- Call back: the end becomes a named place from reach to end, both included
+abbrev pub endingAt : Authority → ℕ → Authority
+endingAt a place = record { end = place; start = a .start; number = a .number; asked = a .asked }
+
 abbrev pub calledBack : Train → ℕ → Train
-calledBack x place = authorised x place (x .number) (x .asked)
+calledBack x place = authorised x (endingAt (x .authority) place)
 
 -- on a table that calls left this is the second test alone (safety/proofs/Bounds: call-back-judged)
 unfoldable pub callBackAllowed : Train → ℕ → Bool
-callBackAllowed x place = computable x && between (reachOf x) (x .end) place
+callBackAllowed x place = computable x && between (reachOf x) (x .authority .end) place
 
 -- Hold and lift: the mark alone, which the next report reads
-abbrev pub marked : Train → Bool → Train
-marked x b = record {
-  id = x .id;
-  length = x .length;
-  figures = x .figures;
-  motion = x .motion;
-  order = x .order;
-  end = x .end;
-  held = b;
-  start = x .start;
-  number = x .number;
-  asked = x .asked;
-}
+abbrev pub holding : Train → Bool → Train
+holding x b = marked x (withHeld (x .marks) b)
 
 -- the record after an accepted act
 unfoldable pub acted : Settings → Act → Train → Train
-acted σ (Report h v) x = reported σ x h v
-acted σ (Extend n l) x = extended x n l
+acted σ (Report r) x = reported σ x r
+acted σ (Extend q) x = extended x q
 acted σ (CallBack place) x = calledBack x place
-acted σ Hold x = marked x true
-acted σ Lift x = marked x false
+acted σ Hold x = holding x true
+acted σ Lift x = holding x false
 
 -- Take off: the first train, standing under brake
 abbrev pub isBrake : Order → Bool

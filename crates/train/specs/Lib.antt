@@ -1,4 +1,6 @@
 pub mod Ranges
+pub mod Record
+pub mod Track
 pub mod Report
 pub mod Acts
 pub mod Checks

@@ -1,4 +1,4 @@
--- Document 01, "Orders": a report of head h and speed v at the end of a cycle, and the order that it gets.
+-- Document 01, "Orders": a report at the end of a cycle, and the order that it gets.
 use Prim.Native.Nat.{ℕ}
 use mathlib.Core.Bool.{Bool, true, false, _&&_}
 use lib.Dec.{leb}
@@ -7,9 +7,11 @@ use Rattle.motion.specs.declared.Order.{Order}
 use Rattle.motion.specs.declared.Order.the-variants.{Brake}
 use Rattle.motion.specs.Orders.{orderCap, worstCase, reach, orderFor}
 use Rattle.motion.specs.Bounds.{inBounds}
+use Rattle.calls.specs.declared.Reading.{Reading}
 use Rattle.train.specs.declared.Settings.{Settings}
 use Rattle.train.specs.declared.Train.{Train}
 use Rattle.train.specs.declared.Reported.{Reported}
+use Rattle.train.specs.Record.{moved}
 
 -- worst case of a train's last order
 abbrev pub worstOf : Train → Motion
@@ -21,43 +23,24 @@ reachOf x = reach (x .figures) (x .motion) (x .order)
 
 -- A report is allowed if the head is not behind the last one nor beyond the worst case of the last order, and the speed is at
 -- most that worst case.
-unfoldable pub allowed : Train → ℕ → ℕ → Bool
-allowed x h v = leb (x .motion .head) h && leb h (worstOf x .head) && leb v (worstOf x .speed)
+unfoldable pub allowed : Train → Reading → Bool
+allowed x r = leb (x .motion .head) (r .head) && leb (r .head) (worstOf x .head) && leb (r .speed) (worstOf x .speed)
 
 -- the motion then: a brake starts at the level found after the last cycle
-abbrev pub motionAfter : Train → ℕ → ℕ → Motion
-motionAfter x h v = record { head = h; speed = v; level = worstOf x .level }
+abbrev pub motionAfter : Train → Reading → Motion
+motionAfter x r = record { head = r .head; speed = r .speed; level = worstOf x .level }
 
 -- the place that orders are worked out against: the end of authority
 abbrev pub goalOf : Train → ℕ
-goalOf x = x .end
+goalOf x = x .authority .end
 
 -- Held: brake. Otherwise drive with the greatest cap, or brake where there is none.
 unfoldable pub orderAfter : Settings → Train → Motion → Order
-orderAfter σ x m = elim (x .held) [ true ↦ Brake | false ↦ orderFor (x .figures) (σ .limits) (goalOf x) m ]
-
--- another motion and order
-abbrev pub moved : Train → Motion → Order → Train
-moved x m o = record {
-  id = x .id;
-  length = x .length;
-  figures = x .figures;
-  motion = m;
-  order = o;
-  end = x .end;
-  held = x .held;
-  start = x .start;
-  number = x .number;
-  asked = x .asked;
-}
+orderAfter σ x m = elim (x .marks .held) [ true ↦ Brake | false ↦ orderFor (x .figures) (σ .limits) (goalOf x) m ]
 
 -- the record after an accepted report
-unfoldable pub reported : Settings → Train → ℕ → ℕ → Train
-reported σ x h v = moved x (motionAfter x h v) (orderAfter σ x (motionAfter x h v))
-
--- a record and its reach
-abbrev pub withReach : Train → Reported
-withReach x = record { train = x; reach = reachOf x }
+unfoldable pub reported : Settings → Train → Reading → Train
+reported σ x r = moved x (motionAfter x r) (orderAfter σ x (motionAfter x r))
 
 -- The record is one that motion can be worked out from. No list of calls leaves another (safety/proofs/Bounds: always-computable).
 unfoldable pub computable : Train → Bool
@@ -65,5 +48,11 @@ computable x = inBounds (x .figures) (x .motion) (orderCap (x .order))
 
 -- What a report is judged by. On a table that calls left this is `allowed` (safety/proofs/Bounds: report-judged); the rest keeps
 -- sums within 64 bits on any other table.
-unfoldable pub reportAllowed : Settings → Train → ℕ → ℕ → Bool
-reportAllowed σ x h v = computable x && allowed x h v && inBounds (x .figures) (motionAfter x h v) (σ .limits .traction)
+unfoldable pub reportAllowed : Settings → Train → Reading → Bool
+reportAllowed σ x r = computable x && allowed x r && inBounds (x .figures) (motionAfter x r) (σ .limits .traction)
+
+-- ---- words of inner contracts
+
+-- a record and its reach
+abbrev pub withReach : Train → Reported
+withReach x = record { train = x; reach = reachOf x }

@@ -2,40 +2,63 @@
 // consist", "Orders" and "Authorities".
 ghost use mathlib.Core.Path.{_≡_};
 ghost use mathlib.Core.Bool.{true};
-ghost use mathlib.Core.Option.{none, some};
-ghost use Prim.Native.Nat.{_+_, _^_, _<_};
-ghost use lib.Dec.{leb};
+ghost use mathlib.Core.Option.{some};
+ghost use Prim.Native.Nat.{_+_, _^_, _≤_, _<_};
+ghost use Rattle.ranges.specs.Ranges.{greatestLength};
 ghost use Rattle.motion.specs.Orders.{offer};
 ghost use Rattle.motion.specs.Bounds.{Bounded};
-ghost use Rattle.train.specs.Ranges.{between, settingsInRange, idInRange, startInRange, requestInRange};
-ghost use Rattle.train.specs.Report.{worstOf, reachOf, allowed, motionAfter, orderAfter, moved, reported, withReach, computable, reportAllowed};
-ghost use Rattle.train.specs.Acts.{stepsOf, withinLimit, entering, authorised, isOld, callBackAllowed, marked, mayLeave};
+ghost use Rattle.train.specs.Ranges.{settingsInRange, settingsOf, requestInRange};
+ghost use Rattle.train.specs.Record.{figuresFor, freshAuthority, freshMarks, entering, moved, authorised};
+ghost use Rattle.train.specs.Track.{stepsOf, limitBehind, withinLimit};
+ghost use Rattle.train.specs.Report.{worstOf, reachOf, allowed, motionAfter, orderAfter, reported, withReach, computable, reportAllowed};
+ghost use Rattle.train.specs.Acts.{isOld, granted, calledBack, callBackAllowed, holding, isBrake, mayLeave};
 use brake::Figures;
+use brake::FiguresFound;
+use calls::Asked;
+use calls::Entry;
+use calls::Opening;
+use calls::Reading;
 use motion::Limits;
 use motion::Motion;
 use motion::Offer;
 use motion::Order;
 
-// Settings of a line: line end, safety distance, and the limits of every train's motion, V and A.
+// Settings that a table works with: line end, safety distance, and the limits of every train's motion, V and A.
 pub struct Settings {
     pub end: u64,
     pub safety: u64,
     pub limits: Limits,
 }
 
-// A train record. The length is in feet. The end is the end of authority. The number is the last accepted request number,
+// The stretch of track that a train is lent. The end is the end of authority. The number is the last accepted request number,
 // and asked is its length; before the first one they are the starting number and 0.
+pub struct Authority {
+    pub end: u64,
+    pub start: u64,
+    pub number: u64,
+    pub asked: u64,
+}
+
+// What calls have marked a train with.
+pub struct Marks {
+    pub held: bool,
+}
+
+// A train record. The length is in feet.
 pub struct Train {
     pub id: u64,
     pub length: u16,
     pub figures: Figures,
     pub motion: Motion,
     pub order: Order,
-    pub end: u64,
-    pub held: bool,
-    pub start: u64,
-    pub number: u64,
-    pub asked: u64,
+    pub authority: Authority,
+    pub marks: Marks,
+}
+
+// A train's limit: a place, or nowhere, where not even 0 is within it.
+pub enum Limit {
+    Place(u64),
+    Nowhere,
 }
 
 // A train record and the reach of its order: a report is answered with it.
@@ -44,82 +67,41 @@ pub struct Reported {
     pub reach: u64,
 }
 
-// A call that names a train on the line and leaves it there: report (head, speed), extend (number, length), call back
-// (place), hold, lift.
-pub enum Act {
-    Report(u64, u64),
-    Extend(u64, u64),
-    CallBack(u64),
-    Hold,
-    Lift,
-}
-
-// What is turned down.
-pub enum Refusal {
-    BadSetting,
-    BadEntry,
-    OnLine,
-    LineFull,
-    BadHead,
-    NoTrain,
-    NotAllowed,
-    BadRequest,
-    OldNumber,
-    OtherLength,
-    NoTrack,
-    BadPlace,
-    NotLeaving,
-}
-
 // ---- ranges
 
-// Both ends are in the range, as in document 01's table of settings.
-fn in_range(low: u64, high: u64, n: u64) -> bool
-    ensures { λ r. ⌜ r ≡ between low high n ⌝ }
+pub fn settings_in_range(o: Opening) -> bool
+    ensures { λ r. ⌜ r ≡ settingsInRange o ⌝ }
 {
-    if n < low {
-        return false;
-    }
-    n <= high
+    let track = logic::both(
+        ranges::line_end_in_range(o.end),
+        ranges::safety_in_range(o.safety),
+    );
+    let speed = logic::both(track, ranges::ceiling_in_range(o.ceiling));
+    logic::both(speed, ranges::traction_in_range(o.traction))
 }
 
-pub fn settings_in_range(s: Settings) -> bool
-    ensures { λ r. ⌜ r ≡ settingsInRange s ⌝ }
+// What an opening gives is not what a table works with: the latter may grow while trains run.
+pub fn settings_of(o: Opening) -> Settings
+    ensures { λ r. ⌜ r ≡ settingsOf o ⌝ }
 {
-    let limits = s.limits;
-    if !in_range(1, 2000000000000, s.end) {
-        return false;
+    Settings {
+        end: o.end,
+        safety: o.safety,
+        limits: Limits {
+            ceiling: o.ceiling,
+            traction: o.traction,
+        },
     }
-    if !in_range(0, 20000000000, s.safety) {
-        return false;
-    }
-    if !in_range(1, 40000000, limits.ceiling) {
-        return false;
-    }
-    in_range(1, 100000, limits.traction)
-}
-
-pub fn id_in_range(id: u64) -> bool
-    ensures { λ r. ⌜ r ≡ idInRange id ⌝ }
-{
-    in_range(1, 65535, id)
-}
-
-// The starting number may be 0: the first request then has number 1.
-pub fn start_in_range(start: u64) -> bool
-    ensures { λ r. ⌜ r ≡ startInRange start ⌝ }
-{
-    in_range(0, 4294967295, start)
 }
 
 // No request longer than the line can be granted, so its length is bounded by the line end.
-pub fn request_in_range(s: Settings, number: u64, length: u64) -> bool
-    ensures { λ r. ⌜ r ≡ requestInRange s number length ⌝ }
+pub fn request_in_range(s: Settings, q: Asked) -> bool
+    ensures { λ r. ⌜ r ≡ requestInRange s q ⌝ }
 {
-    if !in_range(1, 4294967295, number) {
-        return false;
-    }
-    in_range(1, s.end, length)
+    logic::both(
+        ranges::number_in_range(q.number),
+        ranges::in_range(1, s.end, q.length),
+    )
 }
 
 // ---- the limit
@@ -131,103 +113,114 @@ pub fn steps_of(length: u16) -> u64
     6096000 * (length as u64)
 }
 
-// Whether a + b is at most n; then the sum fits.
-fn sum_within(a: u64, b: u64, n: u64) -> bool
-    ensures { λ r. ⌜ (r ≡ leb (a + b) n) × (r ≡ true → a + b < 2 ^ 64) ⌝ }
-{
-    if n < a {
-        return false;
-    }
-    b <= n - a
-}
-
-// Whether the place end + more is within the limit of the first train; then the sum fits.
-pub fn within_line(s: Settings, end: u64, more: u64) -> bool
-    ensures { λ r. ⌜ (r ≡ withinLimit s none (end + more)) × (r ≡ true → end + more < 2 ^ 64) ⌝ }
-{
-    sum_within(end, more, s.end)
-}
-
-// Whether the place end + more is within the limit behind the train a; then the sum fits. Each difference is tested first:
-// nothing is within a limit that would lie below 0.
-pub fn within_behind(s: Settings, a: Train, end: u64, more: u64) -> bool
-    ensures { λ r. ⌜ (r ≡ withinLimit s (some a) (end + more)) × (r ≡ true → end + more < 2 ^ 64) ⌝ }
+// The limit behind the train a. Each difference is tested first: no limit lies below 0.
+pub fn limit_behind(s: Settings, a: Train) -> Limit
+    ensures { λ r. ⌜ r ≡ limitBehind s (some a) ⌝ }
 {
     let safety = s.safety;
     let m = a.motion;
     let head = m.head;
     let length = steps_of(a.length);
     if head < length {
-        return false;
+        return Limit::Nowhere;
     }
     let rear = head - length;
     if rear < safety {
-        return false;
+        return Limit::Nowhere;
     }
-    sum_within(end, more, rear - safety)
+    Limit::Place(rear - safety)
 }
 
-// ---- other records
-
-// Enter: standing under full brake, with no track but what it stands on. Nothing of an earlier stay counts.
-pub fn new_train(id: u64, head: u64, length: u16, k: Figures, start: u64) -> Train
-    ensures { λ r. ⌜ r ≡ entering id head length k start ⌝ }
+// Whether the place end + more is within a limit; then the sum fits.
+pub fn within(limit: Limit, end: u64, more: u64) -> bool
+    ensures { λ r. ⌜ (r ≡ withinLimit limit (end + more)) × (r ≡ true → end + more < 2 ^ 64) ⌝ }
 {
-    let full = k.full;
-    Train {
-        id: id,
-        length: length,
-        figures: k,
-        motion: Motion {
-            head: head,
-            speed: 0,
-            level: full,
-        },
-        order: Order::Brake,
+    match limit {
+        Limit::Place(place) => {
+            if place < end {
+                return false;
+            }
+            more <= place - end
+        }
+        Limit::Nowhere => false,
+    }
+}
+
+// ---- a record, by its parts
+
+// The brake figures that a train enters with, or none.
+pub fn figures_for(s: Settings, e: Entry) -> FiguresFound
+    ensures { λ r. ⌜ r ≡ figuresFor s e ⌝ }
+{
+    brake::figures_of(e.load, e.length)
+}
+
+// No track but what the train stands on, and nothing asked for.
+pub fn fresh_authority(head: u64, start: u64) -> Authority
+    ensures { λ r. ⌜ r ≡ freshAuthority head start ⌝ }
+{
+    Authority {
         end: head,
-        held: false,
-        start: start,
+        start,
         number: start,
         asked: 0,
     }
 }
 
-// Extend and call back move the end; a call back keeps the request number, so that a repeat still adds none.
-pub fn with_authority(x: Train, end: u64, number: u64, asked: u64) -> Train
-    ensures { λ r. ⌜ r ≡ authorised x end number asked ⌝ }
+pub fn fresh_marks() -> Marks
+    ensures { λ r. ⌜ r ≡ freshMarks ⌝ }
 {
-    let mut y = x;
-    y.end = end;
-    y.number = number;
-    y.asked = asked;
-    y
+    Marks { held: false }
 }
 
-// Hold and lift.
-pub fn with_mark(x: Train, held: bool) -> Train
-    ensures { λ r. ⌜ r ≡ marked x held ⌝ }
+// Enter: standing under full brake. Nothing of an earlier stay counts.
+pub fn new_train(e: Entry, k: Figures) -> Train
+    requires { ⌜ e .length ≤ greatestLength ⌝ }
+    ensures { λ r. ⌜ r ≡ entering e k ⌝ }
 {
-    let mut y = x;
-    y.held = held;
-    y
+    let full = k.full;
+    Train {
+        id: e.id,
+        length: e.length as u16,
+        figures: k,
+        motion: Motion {
+            head: e.head,
+            speed: 0,
+            level: full,
+        },
+        order: Order::Brake,
+        authority: fresh_authority(e.head, e.start),
+        marks: fresh_marks(),
+    }
 }
 
+// Report: another motion and order. The record is written anew, because an order is not stored to.
 fn with_motion(x: Train, m: Motion, o: Order) -> Train
     ensures { λ r. ⌜ r ≡ moved x m o ⌝ }
 {
     let k = x.figures;
+    let a = x.authority;
+    let s = x.marks;
     Train {
         id: x.id,
         length: x.length,
         figures: k,
         motion: m,
         order: o,
-        end: x.end,
-        held: x.held,
-        start: x.start,
-        number: x.number,
-        asked: x.asked,
+        authority: a,
+        marks: s,
     }
+}
+
+// Hold and lift: the mark alone, which the next report reads.
+pub fn with_held(x: Train, held: bool) -> Train
+    ensures { λ r. ⌜ r ≡ holding x held ⌝ }
+{
+    let mut s = x.marks;
+    s.held = held;
+    let mut y = x;
+    y.marks = s;
+    y
 }
 
 // ---- report and call back
@@ -239,10 +232,7 @@ fn is_computable(x: Train) -> bool
     let k = x.figures;
     let m = x.motion;
     let o = x.order;
-    match o {
-        Order::Drive(c) => motion::in_bounds(k, m, c),
-        Order::Brake => motion::in_bounds(k, m, 0),
-    }
+    motion::in_bounds(k, m, motion::order_cap(o))
 }
 
 // The worst case of the last order.
@@ -257,7 +247,7 @@ fn worst_of(x: Train) -> Motion
 }
 
 // A call back may not come before it.
-pub fn reach_of(x: Train) -> u64
+fn reach_of(x: Train) -> u64
     requires { ⌜ computable x ≡ true ⌝ }
     ensures { λ r. ⌜ r ≡ reachOf x ⌝ }
 {
@@ -268,49 +258,40 @@ pub fn reach_of(x: Train) -> u64
 }
 
 // Head and speed are judged each by itself: no further back than the last head, no worse than the worst case.
-fn is_allowed(x: Train, head: u64, speed: u64) -> bool
+fn is_allowed(x: Train, r: Reading) -> bool
     requires { ⌜ computable x ≡ true ⌝ }
-    ensures { λ r. ⌜ r ≡ allowed x head speed ⌝ }
+    ensures { λ b. ⌜ b ≡ allowed x r ⌝ }
 {
     let m = x.motion;
-    let last = m.head;
     let worst = worst_of(x);
-    if head < last {
-        return false;
-    }
-    if worst.head < head {
-        return false;
-    }
-    speed <= worst.speed
+    let head = logic::both(m.head <= r.head, r.head <= worst.head);
+    logic::both(head, r.speed <= worst.speed)
 }
 
 // The motion after a report: the level is the one found after the last cycle, whatever was reported.
-fn motion_after(x: Train, head: u64, speed: u64) -> Motion
+fn motion_after(x: Train, r: Reading) -> Motion
     requires { ⌜ computable x ≡ true ⌝ }
-    ensures { λ r. ⌜ r ≡ motionAfter x head speed ⌝ }
+    ensures { λ m. ⌜ m ≡ motionAfter x r ⌝ }
 {
     let worst = worst_of(x);
     Motion {
-        head: head,
-        speed: speed,
+        head: r.head,
+        speed: r.speed,
         level: worst.level,
     }
 }
 
 // Refusal 9. A record that motion cannot be worked out from is refused too: no list of calls leaves one.
-pub fn report_allowed(s: Settings, x: Train, head: u64, speed: u64) -> bool
-    ensures { λ r. ⌜ r ≡ reportAllowed s x head speed ⌝ }
+pub fn report_allowed(s: Settings, x: Train, r: Reading) -> bool
+    ensures { λ b. ⌜ b ≡ reportAllowed s x r ⌝ }
 {
     if !is_computable(x) {
         return false;
     }
-    if !is_allowed(x, head, speed) {
-        return false;
-    }
     let k = x.figures;
     let limits = s.limits;
-    let m = motion_after(x, head, speed);
-    motion::in_bounds(k, m, limits.traction)
+    let m = motion_after(x, r);
+    logic::both(is_allowed(x, r), motion::in_bounds(k, m, limits.traction))
 }
 
 // A hold acts here, at the next report, and not on the order already given.
@@ -319,19 +300,21 @@ fn order_after(s: Settings, x: Train, m: Motion) -> Offer
     ensures { λ r. ⌜ r ≡ offer (x .figures) m (orderAfter s x m) ⌝ }
 {
     let k = x.figures;
-    if x.held {
+    let marks = x.marks;
+    if marks.held {
         return motion::offer_of(k, m, Order::Brake);
     }
     let limits = s.limits;
-    motion::order_for(k, limits, x.end, m)
+    let a = x.authority;
+    motion::order_for(k, limits, a.end, m)
 }
 
 // The record after a report that is allowed, and its reach, which the search for the order has found.
-pub fn report_on(s: Settings, x: Train, head: u64, speed: u64) -> Reported
-    requires { ⌜ reportAllowed s x head speed ≡ true ⌝ }
-    ensures { λ r. ⌜ r ≡ withReach (reported s x head speed) ⌝ }
+pub fn report_on(s: Settings, x: Train, r: Reading) -> Reported
+    requires { ⌜ reportAllowed s x r ≡ true ⌝ }
+    ensures { λ y. ⌜ y ≡ withReach (reported s x r) ⌝ }
 {
-    let m = motion_after(x, head, speed);
+    let m = motion_after(x, r);
     let given = order_after(s, x, m);
     let o = given.order;
     Reported {
@@ -347,20 +330,46 @@ pub fn call_back_allowed(x: Train, place: u64) -> bool
     if !is_computable(x) {
         return false;
     }
+    let a = x.authority;
     let reach = reach_of(x);
-    in_range(reach, x.end, place)
+    ranges::in_range(reach, a.end, place)
+}
+
+// The end moves, and the request number stays, so that a repeat still adds none.
+pub fn call_back_to(x: Train, place: u64) -> Train
+    ensures { λ r. ⌜ r ≡ calledBack x place ⌝ }
+{
+    let mut a = x.authority;
+    a.end = place;
+    let mut y = x;
+    y.authority = a;
+    y
 }
 
 // ---- extend and take off
 
 // Refusal 11. The last accepted number itself is not old: it may be a repeat.
-pub fn is_old(x: Train, number: u64) -> bool
-    ensures { λ r. ⌜ r ≡ isOld x number ⌝ }
+pub fn is_old(a: Authority, q: Asked) -> bool
+    ensures { λ r. ⌜ r ≡ isOld a q ⌝ }
 {
-    if number <= x.start {
+    if q.number <= a.start {
         return true;
     }
-    number < x.number
+    q.number < a.number
+}
+
+// A new request is granted: its length is added, and its number is the last accepted one.
+pub fn grant(x: Train, q: Asked) -> Train
+    requires { ⌜ x .authority .end + q .length < 2 ^ 64 ⌝ }
+    ensures { λ r. ⌜ r ≡ authorised x (granted (x .authority) q) ⌝ }
+{
+    let mut a = x.authority;
+    a.end = a.end + q.length;
+    a.number = q.number;
+    a.asked = q.length;
+    let mut y = x;
+    y.authority = a;
+    y
 }
 
 // Refusal 15. Under drive a standing train may start in the coming cycle.
@@ -370,12 +379,13 @@ pub fn may_leave(i: usize, x: Train) -> bool
     let k = x.figures;
     let m = x.motion;
     let o = x.order;
-    if i != 0 {
-        return false;
-    }
-    if !motion::standing(k, m.speed, m.level) {
-        return false;
-    }
+    let standing = logic::both(i == 0, motion::standing(k, m.speed, m.level));
+    logic::both(standing, is_brake(o))
+}
+
+fn is_brake(o: Order) -> bool
+    ensures { λ r. ⌜ r ≡ isBrake o ⌝ }
+{
     match o {
         Order::Drive(_) => false,
         Order::Brake => true,

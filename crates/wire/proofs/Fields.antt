@@ -10,7 +10,7 @@ use lib.Dec.{eqb, leb}
 use lib.ListN.{length, drop, getD}
 use lib.Seq.{drop-cons, drop-length}
 use borrow.Author.Tests.{leb-true}
-use Rattle.brake.proofs.Tests.{by-test, both}
+use Rattle.logic.proofs.Tests.{by-test, both}
 use Rattle.wire.specs.declared.Scan.{Scan}
 use Rattle.wire.specs.declared.Scan.the-variants.{Blank, Digits, Bad}
 use Rattle.wire.specs.Format.{isDigit, digit, column, columns, soFar}

@@ -1,4 +1,4 @@
--- What is written is read back: a number, the numbers of a line, a call, an answer. Assumes nothing.
+-- What is written is read back: a number, the numbers of a line, a request, an answer. Assumes nothing.
 use Prim.Native.Nat.{ℕ, zero, suc, _+_, _-_, _*_, _/_, _%_, _^_, _<_}
 use native.Mathlib.Nat.{div-add-mod, mod-lt, pow-zero, pow-suc}
 use native.Mathlib.Omega.{arith}
@@ -11,10 +11,11 @@ use lib.ListN.{length, length-append}
 use lib.Seq.{take-at, drop-at}
 use borrow.Author.Tests.{eq-eqb, ne-eqb, le-leb}
 use Rattle.calls.specs.declared.Numbers.{Numbers}
+use Rattle.calls.specs.Requests.{requestOf}
 use Rattle.wire.specs.declared.Scan.{Scan}
 use Rattle.wire.specs.declared.Scan.the-variants.{Blank, Digits}
 use Rattle.wire.specs.declared.Field.the-variants.{Number}
-use Rattle.wire.specs.Format.{total, callColumns, callWidth, answerColumns, answerWidth, digit, column, columns, ended, fieldOf, numbersIn, said, lineRead, digitOf, leftDigit, left, text, textOf, answerText}
+use Rattle.wire.specs.Format.{total, callColumns, callWidth, answerColumns, answerWidth, digit, column, columns, ended, fieldOf, numbersIn, lineRead, digitOf, leftDigit, left, text, textOf, answerText}
 use Rattle.wire.proofs.Fields.{columns-append}
 
 -- ---- a number in its columns
@@ -103,8 +104,8 @@ numbers-read (w ∷ ws) (n ∷ ns) f =
     let t : length (text w n) ≡ w = text-long w n in
     simp (take-at (text w n) (textOf ws ns) w t, drop-at (text w n) (textOf ws ns) w t, text-read w n (f .0) (f .1), numbers-read ws ns (f .2))
 
--- a call's line, typed as document 01 says, is read as that call
-pub call-read : (ns : List ℕ) → Fits callColumns ns → lineRead (textOf callColumns ns) ≡ said (some ns)
+-- a line typed as document 01 says is read as what its numbers ask
+pub call-read : (ns : List ℕ) → Fits callColumns ns → lineRead (textOf callColumns ns) ≡ requestOf ns
 unfolding lineRead
 call-read ns f = simp (eq-eqb (length (textOf callColumns ns)) callWidth (text-total callColumns ns f), numbers-read callColumns ns f)
 

@@ -10,13 +10,14 @@ use lib.Dec.{eqb}
 use lib.ListN.{length, take, drop, length-drop, take-append-drop}
 use lib.Seq.{length-take-le}
 use borrow.Author.Tests.{eqb-true}
-use Rattle.brake.proofs.Tests.{by-test}
+use Rattle.logic.proofs.Tests.{by-test}
+use Rattle.calls.specs.declared.RequestRead.the-variants.{Unreadable}
+use Rattle.calls.specs.Requests.{requestOf}
 use Rattle.wire.specs.declared.Scan.{Scan}
 use Rattle.wire.specs.declared.Scan.the-variants.{Blank, Digits, Bad}
 use Rattle.wire.specs.declared.Field.{Field}
 use Rattle.wire.specs.declared.Field.the-variants.{Number, NoNumber}
-use Rattle.wire.specs.declared.LineRead.the-variants.{Unreadable}
-use Rattle.wire.specs.Format.{total, callColumns, callWidth, isDigit, digit, column, columns, soFar, ended, fieldOf, withNumber, numbersIn, said, lineRead, left, text, textOf}
+use Rattle.wire.specs.Format.{total, callColumns, callWidth, isDigit, digit, column, columns, soFar, ended, fieldOf, withNumber, numbersIn, asked, lineRead, left, text, textOf}
 use Rattle.wire.proofs.Fields.{digit-range, column-below}
 use Rattle.wire.proofs.RoundTrip.{long-more, Fits}
 
@@ -118,21 +119,21 @@ numbers-text (w ∷ ws) line ns h e =
     let rest = numbers-text ws (drop w line) ms (omega (arith, length-drop w line)) r in
     rw p (cc (take-append-drop w line), (fits .0, fits .1, rest .1))
 
--- a line that is the text of a call's numbers, and is read as what they say
+-- a line that is the text of its numbers, and is read as what they ask
 pub record Typed (line : List ℕ) : Type 0 where
   pub numbers : List ℕ
   pub fits : Fits callColumns numbers
   pub text : line ≡ textOf callColumns numbers
-  pub said-so : lineRead line ≡ said (some numbers)
+  pub asks : lineRead line ≡ requestOf numbers
 
-typed-by : (line : List ℕ) (r : Option (List ℕ)) → length line ≡ callWidth → numbersIn callColumns line ≡ r → lineRead line ≡ said r
+typed-by : (line : List ℕ) (r : Option (List ℕ)) → length line ≡ callWidth → numbersIn callColumns line ≡ r → lineRead line ≡ asked r
     → (lineRead line ≡ Unreadable → ⊥) → Typed line
 typed-by line none h e s k = absurd (k s)
 typed-by line (some ns) h e s k =
     let t = numbers-text callColumns line ns (sym h) e in
-    record { numbers = ns; fits = t .1; text = t .0; said-so = s }
+    record { numbers = ns; fits = t .1; text = t .0; asks = s }
 
--- a line that is read is the text of its own numbers, so that nothing else is taken for a call
+-- a line that is read is the text of its own numbers, so that nothing else is taken for a request
 pub line-typed : (line : List ℕ) → (lineRead line ≡ Unreadable → ⊥) → Typed line
 unfolding lineRead
 line-typed line k =

@@ -4,19 +4,16 @@ use mathlib.Core.Bool.{Bool, cond, _&&_}
 use mathlib.Core.Option.{Option, none, some}
 use mathlib.Core.List.{List, [], _∷_, _++_}
 use lib.Dec.{eqb, leb}
-use lib.ListN.{length, take, drop, getD, replicate}
+use lib.ListN.{length, take, drop, replicate}
 use Rattle.calls.specs.declared.Numbers.{Numbers}
-use Rattle.calls.specs.declared.CallRead.{CallRead}
-use Rattle.calls.specs.declared.CallRead.the-variants.{Read}
-use Rattle.calls.specs.declared.CallRead.the-variants as callRead
-use Rattle.calls.specs.Codes.{callOf}
+use Rattle.calls.specs.declared.RequestRead.{RequestRead}
+use Rattle.calls.specs.declared.RequestRead.the-variants.{Unreadable}
+use Rattle.calls.specs.Requests.{requestOf}
 use Rattle.wire.specs.declared.Scan.{Scan}
 use Rattle.wire.specs.declared.Scan.the-variants.{Blank, Digits, Bad}
 use Rattle.wire.specs.declared.Field.{Field}
 use Rattle.wire.specs.declared.Field.the-variants.{Number, NoNumber}
 use Rattle.wire.specs.declared.Row.{Row}
-use Rattle.wire.specs.declared.LineRead.{LineRead}
-use Rattle.wire.specs.declared.LineRead.the-variants.{Opening, Calling, Unreadable}
 
 -- ---- the columns
 
@@ -79,27 +76,14 @@ unfoldable pub numbersIn : List ℕ → List ℕ → Option (List ℕ)
 numbersIn [] line = some []
 numbersIn (w ∷ ws) line = withNumber (fieldOf (take w line)) (numbersIn ws (drop w line))
 
--- 1 open (line end, safety distance, V, A); unused numbers are 0
-unfoldable pub openingOf : ℕ → ℕ → ℕ → ℕ → ℕ → LineRead
-openingOf end safety ceiling traction e =
-    cond (eqb e 0) (Opening (record { end = end; safety = safety; limits = record { ceiling = ceiling; traction = traction } })) Unreadable
-
--- 2 to 8: calls on a table
-abbrev pub calling : CallRead → LineRead
-calling (Read c) = Calling c
-calling callRead.Unreadable = Unreadable
-
--- what a code and its five numbers say
-unfoldable pub saidBy : ℕ → ℕ → ℕ → ℕ → ℕ → ℕ → LineRead
-saidBy code a b c d e = cond (eqb code 1) (openingOf a b c d e) (calling (callOf code a b c d e))
-
-abbrev pub said : Option (List ℕ) → LineRead
-said none = Unreadable
-said (some ns) = saidBy (getD ns 0 0) (getD ns 1 0) (getD ns 2 0) (getD ns 3 0) (getD ns 4 0) (getD ns 5 0)
+-- what the numbers of a line ask, if it has them
+abbrev pub asked : Option (List ℕ) → RequestRead
+asked none = Unreadable
+asked (some ns) = requestOf ns
 
 -- an input line without its line feed
-unfoldable pub lineRead : List ℕ → LineRead
-lineRead line = cond (eqb (length line) callWidth) (said (numbersIn callColumns line)) Unreadable
+unfoldable pub lineRead : List ℕ → RequestRead
+lineRead line = cond (eqb (length line) callWidth) (asked (numbersIn callColumns line)) Unreadable
 
 -- ---- writing
 

@@ -1,19 +1,17 @@
-// The session's lines: an input line to what it says, an answer to its bytes. Document 01, "The session program".
+// The session's lines: an input line to what it asks, an answer to its bytes. Document 01, "The session program".
 ghost use mathlib.Core.Path.{_≡_};
 ghost use mathlib.Core.List.{_++_};
 ghost use Prim.Native.Nat.{_-_, _≤_, _<_};
 ghost use lib.ListN.{length, drop};
-ghost use Rattle.wire.specs.Format.{digit as digitAfter, column as columnAfter, soFar, fieldOf, callColumns, callWidth, answerWidth, numbersIn, rowNumbers, openingOf, saidBy, lineRead, digitOf, leftDigit, text, answerText};
-use calls::Call;
-use calls::CallRead;
+ghost use Rattle.wire.specs.Format.{digit as digitAfter, column as columnAfter, soFar, fieldOf, callColumns, callWidth, answerWidth, numbersIn, rowNumbers, lineRead, digitOf, leftDigit, text, answerText};
 use calls::Numbers;
-use motion::Limits;
-use train::Settings;
+use calls::ROW;
+use calls::RequestRead;
 
 // The columns of an input line: a code and five numbers.
-const CALL_COLUMNS: [usize; 6] = [2, 14, 14, 14, 14, 14];
+const CALL_COLUMNS: [usize; ROW] = [2, 14, 14, 14, 14, 14];
 
-pub const CALL_WIDTH: usize = CALL_COLUMNS[0] + 5 * CALL_COLUMNS[1];
+pub const CALL_WIDTH: usize = CALL_COLUMNS[0] + (ROW - 1) * CALL_COLUMNS[1];
 
 // The columns of an output line: the answer and three numbers.
 const ANSWER_COLUMNS: [usize; 4] = [2, 14, 14, 14];
@@ -44,14 +42,7 @@ pub enum Field {
 // not hold an array.)
 pub struct Row {
     pub readable: bool,
-    pub numbers: [u64; 6],
-}
-
-// What an input line says: open with these settings, or a call on the table.
-pub enum LineRead {
-    Opening(Settings),
-    Calling(Call),
-    Unreadable,
+    pub numbers: [u64; ROW],
 }
 
 // ---- reading
@@ -111,42 +102,15 @@ fn field_in(field: &[u8]) -> Field
     }
 }
 
-// Open: line end, safety distance, V, A. The fifth number is unused.
-fn opening(end: u64, safety: u64, ceiling: u64, traction: u64, e: u64) -> LineRead
-    ensures { λ r. ⌜ r ≡ openingOf end safety ceiling traction e ⌝ }
-{
-    if e != 0 {
-        return LineRead::Unreadable;
-    }
-    LineRead::Opening(Settings {
-        end,
-        safety,
-        limits: Limits { ceiling, traction },
-    })
-}
-
-// What a code and its five numbers say.
-fn said_by(code: u64, a: u64, b: u64, c: u64, d: u64, e: u64) -> LineRead
-    ensures { λ r. ⌜ r ≡ saidBy code a b c d e ⌝ }
-{
-    if code == 1 {
-        return opening(a, b, c, d, e);
-    }
-    let CallRead::Read(call) = calls::call_of(code, a, b, c, d, e) else {
-        return LineRead::Unreadable;
-    };
-    LineRead::Calling(call)
-}
-
 // The numbers of a line.
 fn numbers_in(line: &[u8]) -> Row
     requires { ⌜ length (now line) ≡ callWidth ⌝ }
     ensures { λ r. ⌜ rowNumbers r ≡ numbersIn callColumns (now (line .entry)) ⌝ }
 {
-    let mut numbers = [0u64; 6];
+    let mut numbers = [0u64; ROW];
     let mut from: usize = 0;
     let mut i: usize = 0;
-    while i < 6 {
+    while i < ROW {
         let to = from + CALL_COLUMNS[i];
         let Field::Number(n) = field_in(&line[from..to]) else {
             return Row {
@@ -164,19 +128,19 @@ fn numbers_in(line: &[u8]) -> Row
     }
 }
 
-// What an input line says, given without its line feed.
-pub fn read_line(line: &[u8]) -> LineRead
+// What an input line asks, given without its line feed.
+pub fn read_line(line: &[u8]) -> RequestRead
     ensures { λ r. ⌜ r ≡ lineRead (now (line .entry)) ⌝ }
 {
     if line.len() != CALL_WIDTH {
-        return LineRead::Unreadable;
+        return RequestRead::Unreadable;
     }
     let row = numbers_in(line);
     let n = row.numbers;
     if !row.readable {
-        return LineRead::Unreadable;
+        return RequestRead::Unreadable;
     }
-    said_by(n[0], n[1], n[2], n[3], n[4], n[5])
+    calls::request_of(n)
 }
 
 // ---- writing

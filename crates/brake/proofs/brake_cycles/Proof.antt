@@ -2,7 +2,7 @@
 -- Assumes nothing.
 use native.Mathlib.Omega.{arith}
 use borrow.Author.Needs.{needs}
-use Rattle.brake.specs.Rounding.{ceilDiv}
+use Rattle.logic.specs.Rounding.{ceilDiv}
 use Rattle.brake.specs.Consist.{applicationCycles, brakeCycles}
 use Rattle.brake.proofs.Consist.{time-fits}
 use Rattle.brake.proofs.brake_cycles.Statement.{statement}

@@ -6,7 +6,8 @@ use native.Mathlib.Omega.{arith}
 use borrow.Author.Needs.{needs}
 use borrow.Author.Tests.{not-true, not-false}
 use Rattle.brake.specs.declared.CarFound.the-variants.{Rated}
-use Rattle.brake.specs.Consist.{lengthInRange, carOf, fullBrake, figuresWith}
+use Rattle.ranges.specs.Ranges.{lengthInRange}
+use Rattle.brake.specs.Consist.{carOf, fullBrake, figuresWith}
 use Rattle.brake.proofs.Consist.{Car, length-within, car-bounds, cycles-positive, figures-out, figures-none, figures-given}
 use Rattle.brake.proofs.figures_of.Statement.{statement}
 use Rattle.brake.proofs.figures_of.Tie as tie

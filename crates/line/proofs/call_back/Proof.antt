@@ -44,8 +44,8 @@ returns-2 c =
     c .refuse2 .ensures
     ∙ sym (call-back-refused _ _ _ _ (found (x .before .before)) (x .train-at .ensures) _ (sym (test .before .call-back-allowed .ensures) ∙ not-true _ (test .if1 .taken)))
 
-with-authority-requires : tie.Need-with-authority-requires
-with-authority-requires c κs = search needs
+call-back-to-requires : tie.Need-call-back-to-requires
+call-back-to-requires c κs = search needs
 
 with-train-requires : tie.Need-with-train-requires
 with-train-requires c κs = search needs
@@ -54,7 +54,7 @@ returns-3 : tie.Need-returns-3
 returns-3 c =
     let test = c .before .before in
     let x = test .before .before in
-    rw (c .with-train .ensures, c .before .with-authority .ensures)
+    rw (c .with-train .ensures, c .before .call-back-to .ensures)
     (sym (call-back-taken _ _ _ _ (found (x .before .before)) (x .train-at .ensures) _ (sym (test .before .call-back-allowed .ensures) ∙ not-false _ (test .if1 .left))))
 
 pub call-back-spec : {M : Type 1} → statement M
@@ -70,6 +70,6 @@ call-back-spec =
     call-back-allowed-requires
     refuse-requires-2
     returns-2
-    with-authority-requires
+    call-back-to-requires
     with-train-requires
     returns-3)

@@ -1,12 +1,12 @@
 -- `line::enter_with` meets its contract.
 -- Assumes nothing.
-use mathlib.Core.Path.{_≡_, sym, _∙_, ap}
+use mathlib.Core.Path.{_≡_, sym, _∙_}
+use native.Mathlib.Nat.{add-zero}
 use native.Mathlib.Omega.{arith}
 use borrow.Author.Tests.{not-true, not-false}
-use Prim.Native.Nat.{ℕ, _+_}
+use Rattle.train.specs.Track.{withinLimit}
 use Rattle.table.specs.declared.Found.the-variants.{Nothing}
-use Rattle.table.specs.Table.{findOf, aheadOf}
-use Rattle.train.specs.Acts.{withinLimit}
+use Rattle.table.specs.Table.{findOf, limitAt}
 use Rattle.line.proofs.Steps.{enter-known, enter-full, enter-short, enter-beyond, enter-taken}
 use borrow.Author.Needs.{needs}
 use Rattle.line.proofs.enter_with.Statement.{statement}
@@ -28,13 +28,16 @@ refuse-requires-2 : tie.Need-refuse-requires-2
 refuse-requires-2 c κs = search needs
 
 -- the id is not on the line
-absent : (c : tie.After-enum-told2) → let a = c .before .before .before .args in findOf (a .t) (a .id) ≡ Nothing
+absent : (c : tie.After-enum-told2) → let a = c .before .before .before .args in findOf (a .t) (a .e .id) ≡ Nothing
 absent c = sym (c .before .before .find .ensures) ∙ c .enum-told2 .given .1
 
 returns : tie.Need-returns
 returns c =
     let none = c .before .before in
-    c .refuse2 .ensures ∙ sym (enter-full _ _ _ _ _ _ (none .before .before .before .pre) (absent none) (omega arith))
+    c .refuse2 .ensures ∙ sym (enter-full _ _ _ (none .before .before .before .pre .0) (absent none) (omega arith))
+
+cast-steps-of : tie.Need-cast-steps-of
+cast-steps-of c = search needs
 
 steps-of-requires : tie.Need-steps-of-requires
 steps-of-requires c κs = search needs
@@ -44,47 +47,48 @@ refuse-requires-3 c κs = search needs
 
 returns-2 : tie.Need-returns-2
 returns-2 c =
-    let none = c .before .before .before .before in
-    c .refuse3 .ensures ∙ sym (enter-short _ _ _ _ _ _ (none .before .before .before .pre) (absent none) (omega arith) (omega arith))
+    let none = c .before .before .before .before .before in
+    c .refuse3 .ensures ∙ sym (enter-short _ _ _ (none .before .before .before .pre .0) (absent none) (omega arith) (omega arith))
 
-within-limit-requires : tie.Need-within-limit-requires
-within-limit-requires c κs = search needs
+limit-at-requires : tie.Need-limit-at-requires
+limit-at-requires c κs = search needs
+
+within-requires : tie.Need-within-requires
+within-requires c κs = search needs
 
 refuse-requires-4 : tie.Need-refuse-requires-4
 refuse-requires-4 c κs = search needs
 
 -- the limit is tested at the head itself
-at-head : (c : tie.After-within-limit) → let a = c .before .before .before .before .before .before .before .args in
-    withinLimit (a .t .settings) (aheadOf (a .t) (a .t .count)) (a .head) ≡ c .within-limit .result
+at-head : (c : tie.After-within) → let a = c .before .before .before .before .before .before .before .before .before .args in
+    withinLimit (limitAt (a .t) (a .t .count)) (a .e .head) ≡ c .within .result
 at-head c =
-    let a = c .before .before .before .before .before .before .before .args in
-    let same : a .head ≡ a .head + 0 = omega arith in
-    ap (λ (place : ℕ). withinLimit (a .t .settings) (aheadOf (a .t) (a .t .count)) place) same ∙ sym (c .within-limit .ensures .0)
+    let a = c .before .before .before .before .before .before .before .before .before .args in
+    sym (c .within .ensures .0 ∙ rw (c .before .limit-at .ensures, add-zero (a .e .head)))
 
 returns-3 : tie.Need-returns-3
 returns-3 c =
-    let none = c .before .before .before .before .before .before in
+    let none = c .before .before .before .before .before .before .before .before in
     c .refuse4 .ensures
-    ∙ sym (enter-beyond _ _ _ _ _ _ (none .before .before .before .pre) (absent none) (omega arith) (omega arith)
-    (at-head (c .before .before) ∙ not-true _ (c .before .if3 .taken)))
+    ∙ sym (enter-beyond _ _ _ (none .before .before .before .pre .0) (absent none) (omega arith) (omega arith) (at-head (c .before .before) ∙ not-true _ (c .before .if3 .taken)))
 
 new-train-requires : tie.Need-new-train-requires
 new-train-requires c κs = search needs
 
 with-last-requires : tie.Need-with-last-requires
-with-last-requires c κs = omega arith
+with-last-requires c κs = search needs
 
 returns-4 : tie.Need-returns-4
 returns-4 c =
     let start = c .before .before .before .before in
-    c .refuse .ensures ∙ sym (enter-known _ _ _ _ _ _ _ (start .pre) (sym (c .before .before .before .find .ensures) ∙ c .before .enum-told .given .1))
+    c .refuse .ensures ∙ sym (enter-known _ _ _ (start .pre .0) _ (sym (c .before .before .before .find .ensures) ∙ c .before .enum-told .given .1))
 
 returns-5 : tie.Need-returns-5
 returns-5 c =
     let test = c .before .before in
-    let none = test .before .before .before .before .before in
+    let none = test .before .before .before .before .before .before .before in
     rw (c .with-last .ensures, c .before .new-train .ensures)
-    (sym (enter-taken _ _ _ _ _ _ (none .before .before .before .pre) (absent none) (omega arith) (omega arith) (at-head (test .before) ∙ not-false _ (test .if3 .left))))
+    (sym (enter-taken _ _ _ (none .before .before .before .pre .0) (absent none) (omega arith) (omega arith) (at-head (test .before) ∙ not-false _ (test .if3 .left))))
 
 pub enter-with-spec : {M : Type 1} → statement M
 enter-with-spec =
@@ -96,10 +100,12 @@ enter-with-spec =
     enum-told-2
     refuse-requires-2
     returns
+    cast-steps-of
     steps-of-requires
     refuse-requires-3
     returns-2
-    within-limit-requires
+    limit-at-requires
+    within-requires
     refuse-requires-4
     returns-3
     new-train-requires

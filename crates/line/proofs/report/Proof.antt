@@ -44,11 +44,11 @@ returns-2 c =
     let test = c .before in
     let x = test .before .before in
     c .refuse2 .ensures
-    ∙ sym (report-refused _ _ _ _ (found (x .before .before .before)) (x .train-at .ensures) _ _ (sym (test .before .report-allowed .ensures) ∙ not-true _ (test .if1 .taken)))
+    ∙ sym (report-refused _ _ _ _ (found (x .before .before .before)) (x .train-at .ensures) _ (sym (test .before .report-allowed .ensures) ∙ not-true _ (test .if1 .taken)))
 
 -- the report is allowed
 passes : (c : tie.Else1) → let x = c .before .before in let a = x .before .before .before .before .before .before .args in
-    reportAllowed (a .t .settings) (x .train-at .result) (a .head) (a .speed) ≡ true
+    reportAllowed (a .t .settings) (x .train-at .result) (a .r) ≡ true
 passes c = sym (c .before .report-allowed .ensures) ∙ not-false _ (c .if1 .left)
 
 report-on-requires : tie.Need-report-on-requires
@@ -62,7 +62,7 @@ returns-3 c =
     let after = c .before .before in
     let x = after .before .before .before in
     rw (c .with-train .ensures, after .report-on .ensures)
-    (sym (report-taken _ _ _ _ (found (x .before .before .before)) (x .train-at .ensures) _ _ (passes (after .before))))
+    (sym (report-taken _ _ _ _ (found (x .before .before .before)) (x .train-at .ensures) _ (passes (after .before))))
 
 pub report-spec : {M : Type 1} → statement M
 report-spec =

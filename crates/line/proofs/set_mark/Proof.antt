@@ -30,8 +30,8 @@ found c = sym (c .before .before .find .ensures) ∙ c .i .given .1
 train-at-requires : tie.Need-train-at-requires
 train-at-requires c κs = search needs
 
-with-mark-requires : tie.Need-with-mark-requires
-with-mark-requires c κs = search needs
+with-held-requires : tie.Need-with-held-requires
+with-held-requires c κs = search needs
 
 with-train-requires : tie.Need-with-train-requires
 with-train-requires c κs = search needs
@@ -39,7 +39,7 @@ with-train-requires c κs = search needs
 returns-2 : tie.Need-returns-2
 returns-2 c =
     let x = c .before .before in
-    rw (c .with-train .ensures, c .before .with-mark .ensures) (sym (mark-taken _ _ _ _ (found (x .before .before)) (x .train-at .ensures) _))
+    rw (c .with-train .ensures, c .before .with-held .ensures) (sym (mark-taken _ _ _ _ (found (x .before .before)) (x .train-at .ensures) _))
 
 pub set-mark-spec : {M : Type 1} → statement M
 set-mark-spec =
@@ -51,6 +51,6 @@ set-mark-spec =
     refuse-requires
     returns
     train-at-requires
-    with-mark-requires
+    with-held-requires
     with-train-requires
     returns-2)

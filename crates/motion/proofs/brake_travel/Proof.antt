@@ -5,7 +5,7 @@ use mathlib.Core.Path.{sym}
 use native.Mathlib.Nat.{mul-le-mul}
 use native.Mathlib.Omega.{arith}
 use borrow.Author.Needs.{needs}
-use Rattle.brake.specs.Rounding.{ceilDiv}
+use Rattle.logic.specs.Rounding.{ceilDiv}
 use Rattle.brake.specs.Consist.{greatestFull}
 use Rattle.motion.proofs.Cycles.{travel-on, travel-last}
 use Rattle.motion.proofs.brake_travel.Statement.{statement}

@@ -1,41 +1,40 @@
 -- `motion::in_bounds` meets its contract.
 -- Assumes nothing.
-use mathlib.Core.Path.{sym}
-use native.Mathlib.Omega.{arith}
-use Rattle.motion.proofs.Bounds.{bounds-fail, bounds-cap}
+use borrow.Author.Needs.{needs}
+use Rattle.motion.specs.Bounds.{inBounds}
 use Rattle.motion.proofs.in_bounds.Statement.{statement}
 use Rattle.motion.proofs.in_bounds.Tie as tie
 
+both-requires : tie.Need-both-requires
+both-requires c κs = search needs
+
+both-requires-2 : tie.Need-both-requires-2
+both-requires-2 c κs = search needs
+
+both-requires-3 : tie.Need-both-requires-3
+both-requires-3 c κs = search needs
+
+both-requires-4 : tie.Need-both-requires-4
+both-requires-4 c κs = search needs
+
+both-requires-5 : tie.Need-both-requires-5
+both-requires-5 c κs = search needs
+
+both-requires-6 : tie.Need-both-requires-6
+both-requires-6 c κs = search needs
+
 returns : tie.Need-returns
-returns c = sym (bounds-fail _ _ _ (λ b. omega arith))
-
-returns-2 : tie.Need-returns-2
-returns-2 c = sym (bounds-fail _ _ _ (λ b. omega arith))
-
-returns-3 : tie.Need-returns-3
-returns-3 c = sym (bounds-fail _ _ _ (λ b. omega arith))
-
-returns-4 : tie.Need-returns-4
-returns-4 c = sym (bounds-fail _ _ _ (λ b. omega arith))
-
-returns-5 : tie.Need-returns-5
-returns-5 c = sym (bounds-fail _ _ _ (λ b. omega arith))
-
-returns-6 : tie.Need-returns-6
-returns-6 c = sym (bounds-fail _ _ _ (λ b. omega arith))
-
-returns-7 : tie.Need-returns-7
-returns-7 c =
-    sym
-    (bounds-cap _ _ _
-    (record {
-      figures = record { growth-positive = omega arith; growth-within = omega arith; full-within = omega arith };
-      head = omega arith;
-      speed = omega arith;
-      level = omega arith;
-      cap = omega arith;
-    }))
+unfolding inBounds
+returns c = cc
 
 pub in-bounds-spec : {M : Type 1} → statement M
 in-bounds-spec =
-    tie.close (tie.spec returns returns-2 returns-3 returns-4 returns-5 returns-6 returns-7)
+    tie.close
+    (tie.spec
+    both-requires
+    both-requires-2
+    both-requires-3
+    both-requires-4
+    both-requires-5
+    both-requires-6
+    returns)

@@ -1,8 +1,8 @@
 -- `stream::answer` meets its contract.
 -- Assumes nothing.
 use mathlib.Core.Path.{sym, ap, _∙_}
-use borrow.Author.Needs.{needs}
 use Rattle.stream.specs.Session.{replyTo}
+use borrow.Author.Needs.{needs}
 use Rattle.stream.proofs.answer.Statement.{statement}
 use Rattle.stream.proofs.answer.Tie as tie
 
@@ -12,14 +12,8 @@ read-line-requires c κs = search needs
 enum-known-read : tie.Need-enum-known-read
 enum-known-read c = search needs
 
-answer-opening-requires : tie.Need-answer-opening-requires
-answer-opening-requires c κs = search needs
-
-enum-known-read-2 : tie.Need-enum-known-read-2
-enum-known-read-2 c = search needs
-
-answer-call-requires : tie.Need-answer-call-requires
-answer-call-requires c κs = search needs
+answer-request-requires : tie.Need-answer-request-requires
+answer-request-requires c κs = search needs
 
 enum-told : tie.Need-enum-told
 enum-told c = search needs
@@ -30,16 +24,10 @@ turn-down-requires c κs = search needs
 returns : tie.Need-returns
 returns c =
     let s = c .before .before .before .before .before .before .args .s in
-    c .answer-opening .ensures ∙ ap (replyTo s) (sym (c .before .before .read .given .1) ∙ c .before .before .before .before .read-line .ensures)
+    c .answer-request .ensures ∙ ap (replyTo s) (sym (c .before .before .read .given .1) ∙ c .before .before .before .before .read-line .ensures)
 
 returns-2 : tie.Need-returns-2
 returns-2 c =
-    let s = c .before .before .before .before .before .before .args .s in
-    c .answer-call .ensures ∙ ap (replyTo s) (sym (c .before .before .read2 .given .1) ∙ c .before .before .before .before .read-line .ensures)
-
-returns-3 : tie.Need-returns-3
-unfolding replyTo
-returns-3 c =
     let s = c .before .before .before .before .before .args .s in
     c .turn-down .ensures ∙ ap (replyTo s) (sym (c .before .enum-told .given .1) ∙ c .before .before .before .read-line .ensures)
 
@@ -49,11 +37,8 @@ answer-spec =
     (tie.spec
     read-line-requires
     enum-known-read
-    answer-opening-requires
-    enum-known-read-2
-    answer-call-requires
+    answer-request-requires
     enum-told
     turn-down-requires
     returns
-    returns-2
-    returns-3)
+    returns-2)

@@ -5,7 +5,7 @@ use borrow.Author.Tests.{not-true, not-false}
 use mathlib.Core.Path.{ap, _∙_}
 use mathlib.Core.Bool.{true}
 use Rattle.calls.specs.declared.Numbers.{Numbers}
-use Rattle.stream.specs.Session.{session, reply, callReply, replyTo}
+use Rattle.stream.specs.Session.{session, reply, callReply, requestReply}
 use Rattle.stream.proofs.answer_call.Statement.{statement}
 use Rattle.stream.proofs.answer_call.Tie as tie
 
@@ -13,7 +13,7 @@ turn-down-requires : tie.Need-turn-down-requires
 turn-down-requires c κs = search needs
 
 returns : tie.Need-returns
-unfolding replyTo
+unfolding requestReply
 returns c = simp (not-true (c .before .before .before .args .s .opened) (c .before .if1 .taken)) (c .turn-down .ensures)
 
 apply-requires : tie.Need-apply-requires
@@ -23,7 +23,7 @@ numbers-of-requires : tie.Need-numbers-of-requires
 numbers-of-requires c κs = search needs
 
 returns-2 : tie.Need-returns-2
-unfolding replyTo
+unfolding requestReply
 returns-2 c =
     let o = c .before .before in
     let s = o .before .before .before .args .s in

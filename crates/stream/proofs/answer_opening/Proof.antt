@@ -7,9 +7,8 @@ use Rattle.calls.specs.declared.Numbers.{Numbers}
 use Rattle.calls.specs.Answers.{numbersOf}
 use Rattle.line.specs.declared.Outcome.{Outcome}
 use Rattle.stream.specs.declared.Session.{Session}
-use Rattle.stream.specs.Session.{session, reply, openReply, replyTo}
+use Rattle.stream.specs.Session.{session, reply, openReply, requestReply}
 use borrow.Author.Needs.{needs}
-use Rattle.stream.specs.Session.{replyTo}
 use Rattle.stream.proofs.answer_opening.Statement.{statement}
 use Rattle.stream.proofs.answer_opening.Tie as tie
 
@@ -24,7 +23,7 @@ turn-down-requires : tie.Need-turn-down-requires
 turn-down-requires c κs = search needs
 
 returns : tie.Need-returns
-unfolding replyTo
+unfolding requestReply
 returns c = simp (c .before .if1 .taken) (c .turn-down .ensures)
 
 open-requires : tie.Need-open-requires
@@ -34,7 +33,7 @@ numbers-of-requires : tie.Need-numbers-of-requires
 numbers-of-requires c κs = search needs
 
 returns-2 : tie.Need-returns-2
-unfolding replyTo
+unfolding requestReply
 returns-2 c =
     let n = c .before .before in
     let o = n .before .before in
@@ -43,7 +42,7 @@ returns-2 c =
     ∙ ap (openReply (o .before .before .args .s)) (o .«open» .ensures))
 
 returns-3 : tie.Need-returns-3
-unfolding replyTo
+unfolding requestReply
 returns-3 c =
     let n = c .before .before in
     let o = n .before .before in

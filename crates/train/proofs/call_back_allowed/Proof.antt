@@ -15,7 +15,7 @@ unfolding callBackAllowed
 returns c = rw (sym (c .before .is-computable .ensures) ∙ not-true _ (c .if1 .taken), callBackAllowed)
 
 reach-of-requires : tie.Need-reach-of-requires
-reach-of-requires c κs = sym (c .before .is-computable .ensures) ∙ not-false _ (c .if1 .left)
+reach-of-requires c κs = sym (c .before .before .is-computable .ensures) ∙ not-false _ (c .before .if1 .left)
 
 in-range-requires : tie.Need-in-range-requires
 in-range-requires c κs = search needs
@@ -23,7 +23,7 @@ in-range-requires c κs = search needs
 returns-2 : tie.Need-returns-2
 unfolding callBackAllowed
 returns-2 c =
-    let one = c .before .before in
+    let one = c .before .before .before in
     rw (sym (one .before .is-computable .ensures) ∙ not-false _ (one .if1 .left), callBackAllowed)
     (c .in-range .ensures ∙ (rw (c .before .reach-of .ensures)))
 

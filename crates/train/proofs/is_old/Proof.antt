@@ -11,7 +11,7 @@ returns c = rw (le-leb _ _ (c .if1 .taken))
 
 returns-2 : tie.Need-returns-2
 unfolding isOld
-returns-2 c = rw (lt-leb _ _ (c .before .if1 .left))
+returns-2 c = rw (lt-leb _ _ (c .before .before .if1 .left))
 
 pub is-old-spec : {M : Type 1} → statement M
 is-old-spec = tie.close (tie.spec returns returns-2)

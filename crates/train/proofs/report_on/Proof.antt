@@ -7,10 +7,10 @@ use Rattle.train.proofs.report_on.Statement.{statement}
 use Rattle.train.proofs.report_on.Tie as tie
 
 motion-after-requires : tie.Need-motion-after-requires
-motion-after-requires c κs = report-passed _ _ _ _ (c .pre) .computes
+motion-after-requires c κs = report-passed _ _ _ (c .pre) .computes
 
 order-after-requires : tie.Need-order-after-requires
-order-after-requires c κs = rw (c .motion-after .ensures) (report-passed _ _ _ _ (c .before .pre) .bounded)
+order-after-requires c κs = rw (c .motion-after .ensures) (report-passed _ _ _ (c .before .pre) .bounded)
 
 with-motion-requires : tie.Need-with-motion-requires
 with-motion-requires c κs = search needs

@@ -1,6 +1,6 @@
 -- `train::steps_of` meets its contract.
 -- Assumes nothing.
-use Rattle.train.specs.Acts.{stepsOf}
+use Rattle.train.specs.Track.{stepsOf}
 use borrow.Author.Needs.{needs}
 use Rattle.train.proofs.steps_of.Statement.{statement}
 use Rattle.train.proofs.steps_of.Tie as tie

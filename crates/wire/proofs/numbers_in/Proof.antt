@@ -6,8 +6,7 @@ use mathlib.Core.Path.{_≡_, refl, sym, ap, _∙_}
 use lib.ListN.{length, take, drop, getD, length-take}
 use borrow.Author.Needs.{needs}
 use lib.Seq.{take-all}
-use mathlib.Core.List.{List, append-nil}
-use mathlib.Core.Option.{Option}
+use mathlib.Core.List.{append-nil}
 use Rattle.wire.specs.declared.Field.{Field}
 use Rattle.wire.specs.Format.{total, callColumns, callWidth, withNumber, numbersIn}
 use Rattle.wire.proofs.Rows.{narrow, total-next, remaining, numbers-next, numbers-end, before, before-more, before-none}

@@ -6,7 +6,7 @@ use mathlib.Core.Option.{none, some}
 use Rattle.wire.specs.declared.Row.{Row}
 use borrow.Author.Tests.{eq-eqb, ne-eqb, not-true, not-false}
 use borrow.Author.Needs.{needs}
-use Rattle.wire.specs.Format.{rowNumbers, said, lineRead}
+use Rattle.wire.specs.Format.{rowNumbers, asked, lineRead}
 use Rattle.wire.proofs.read_line.Statement.{statement}
 use Rattle.wire.proofs.read_line.Tie as tie
 
@@ -27,34 +27,16 @@ returns-2 : tie.Need-returns-2
 unfolding lineRead
 returns-2 c =
     let row = c .before .before .before in
-    simp (eq-eqb _ _ (row .before .if1 .left)) (ap said (sym (unread (row .numbers-in .result) (c .if2 .taken)) ∙ row .numbers-in .ensures))
+    simp (eq-eqb _ _ (row .before .if1 .left)) (ap asked (sym (unread (row .numbers-in .result) (c .if2 .taken)) ∙ row .numbers-in .ensures))
 
-array-read-said-by : tie.Need-array-read-said-by
-array-read-said-by c = search needs
-
-array-read-said-by-2 : tie.Need-array-read-said-by-2
-array-read-said-by-2 c = search needs
-
-array-read-said-by-3 : tie.Need-array-read-said-by-3
-array-read-said-by-3 c = search needs
-
-array-read-said-by-4 : tie.Need-array-read-said-by-4
-array-read-said-by-4 c = search needs
-
-array-read-said-by-5 : tie.Need-array-read-said-by-5
-array-read-said-by-5 c = search needs
-
-array-read-said-by-6 : tie.Need-array-read-said-by-6
-array-read-said-by-6 c = search needs
-
-said-by-requires : tie.Need-said-by-requires
-said-by-requires c κs = search needs
+request-of-requires : tie.Need-request-of-requires
+request-of-requires c κs = search needs
 
 returns-3 : tie.Need-returns-3
 unfolding lineRead
 returns-3 c =
     let row = c .before .before .before .before in
-    simp (eq-eqb _ _ (row .before .if1 .left)) (c .said-by .ensures ∙ ap said (sym (read (row .numbers-in .result) (c .before .if2 .left)) ∙ row .numbers-in .ensures))
+    simp (eq-eqb _ _ (row .before .if1 .left)) (c .request-of .ensures ∙ ap asked (sym (read (row .numbers-in .result) (c .before .if2 .left)) ∙ row .numbers-in .ensures))
 
 pub read-line-spec : {M : Type 1} → statement M
 read-line-spec =
@@ -63,11 +45,5 @@ read-line-spec =
     returns
     numbers-in-requires
     returns-2
-    array-read-said-by
-    array-read-said-by-2
-    array-read-said-by-3
-    array-read-said-by-4
-    array-read-said-by-5
-    array-read-said-by-6
-    said-by-requires
+    request-of-requires
     returns-3)

@@ -1,0 +1,22 @@
+-- The worked examples are what the definitions give: computed.
+-- Assumes nothing.
+use mathlib.Core.Path.{_≡_, refl}
+use Rattle.logic.specs.Rounding.{ceilDiv}
+use Rattle.ranges.specs.Ranges.{between}
+use Rattle.brake.specs.Consist.{carOf, fullBrake, applicationTime, applicationCycles, brakeCycles, figuresWith, figuresBy, figuresOf}
+use Rattle.motion.specs.Motion.{brakeTravel, brakeSpeed, nextLevel, driveTravel, driveSpeed, stands, brakedCycle, firstCycles, enoughCycles, brakedRun, totalTravel, stoppingDistance}
+use Rattle.motion.specs.Orders.{stoppingPlace, capFits, greatest, orderFor}
+use Rattle.motion.specs.Bounds.{inBounds}
+use Rattle.calls.specs.Checks.{firstOf}
+use Rattle.train.specs.Ranges.{settingsInRange, requestInRange}
+use Rattle.train.specs.Track.{stepsOf, limitBehind}
+use Rattle.train.specs.Report.{allowed, orderAfter, reported, computable, reportAllowed}
+use Rattle.train.specs.Acts.{isRepeat, extended, isOld, callBackAllowed, acted, mayLeave}
+use Rattle.table.specs.Table.{placeIn, findOf, aheadOf}
+use Rattle.line.specs.Step.{openStep, enterStep, actStep, ownStep, takeOffStep, step}
+use Rattle.safety.specs.History.{history, isAccepted, deedIn, deedsIn, takesOff, hasLeft, stayFrom, stays, headOf, speedOf, rearOf, authorityOf, hasLift, reportsIn, heldFor}
+use Rattle.safety.specs.Worked.{sessionLine, printedBy, sessionCalls, sessionAnswers, wordsAfter, secondCalls, secondWords}
+
+pub worked : (printedBy sessionLine sessionCalls ≡ sessionAnswers) × (wordsAfter sessionLine secondCalls ≡ secondWords)
+unfolding ceilDiv between carOf fullBrake applicationTime applicationCycles brakeCycles figuresWith figuresBy figuresOf brakeTravel brakeSpeed nextLevel driveTravel driveSpeed stands brakedCycle firstCycles enoughCycles brakedRun totalTravel stoppingDistance stoppingPlace capFits greatest orderFor inBounds firstOf settingsInRange requestInRange stepsOf limitBehind allowed orderAfter reported computable reportAllowed isRepeat extended isOld callBackAllowed acted mayLeave placeIn findOf aheadOf openStep enterStep actStep ownStep takeOffStep step history isAccepted deedIn deedsIn takesOff hasLeft stayFrom stays headOf speedOf rearOf authorityOf hasLift reportsIn heldFor
+worked = (refl, refl)

@@ -1,0 +1,104 @@
+-- Worked examples: document 01's session as calls and printed answers, and a second list of calls for the words of demand 3
+-- (proofs/Worked: worked).
+use Prim.Native.Nat.{ℕ}
+use mathlib.Core.Option.{Option, none, some}
+use mathlib.Core.List.{List, [], _∷_, map}
+use Rattle.calls.specs.declared.Opening.{Opening}
+use Rattle.calls.specs.declared.Act.{Act}
+use Rattle.calls.specs.declared.Act.the-variants.{Report, Extend, CallBack, Hold, Lift}
+use Rattle.calls.specs.declared.Call.{Call}
+use Rattle.calls.specs.declared.Call.the-variants.{Enter, Own, TakeOff}
+use Rattle.calls.specs.declared.Numbers.{Numbers}
+use Rattle.calls.specs.Answers.{numbers, numbersOf}
+use Rattle.line.specs.Step.{openStep}
+use Rattle.safety.specs.History.{Event, history, Stay, stays, headOf, speedOf, rearOf, endOf, heldFor}
+
+abbrev pub enter : ℕ → ℕ → ℕ → ℕ → ℕ → Call
+enter id h l load s = Enter (record { id = id; head = h; length = l; load = load; start = s })
+
+abbrev pub report : ℕ → ℕ → Act
+report h v = Report (record { head = h; speed = v })
+
+abbrev pub extend : ℕ → ℕ → Act
+extend n l = Extend (record { number = n; length = l })
+
+abbrev pub sessionLine : Opening
+sessionLine = record { end = 200000000000; safety = 8000000000; ceiling = 26822400; traction = 3726 }
+
+-- the opening's answer and those of the calls after it, as they are printed
+abbrev pub printedBy : Opening → List Call → List Numbers
+printedBy o cs = numbersOf (openStep o .answer) ∷ map (λ (e : Event). e .answer) (history (openStep o .table) cs)
+
+-- the session, then the report that is taken and the two call backs
+abbrev pub sessionCalls : List Call
+sessionCalls =
+    enter 7 14295120000 2345 1 0
+    ∷ Own 7 (report 14295120000 0)
+    ∷ Own 7 (extend 1 20000)
+    ∷ Own 7 (extend 1 20000)
+    ∷ Own 7 (report 14295120000 0)
+    ∷ Own 7 (report 14295122538 2537)
+    ∷ Own 7 (report 14295122537 2537)
+    ∷ Own 7 (CallBack 14295139997)
+    ∷ Own 7 (CallBack 14295139998)
+    ∷ []
+
+abbrev pub sessionAnswers : List Numbers
+sessionAnswers =
+    numbers 0 0 0 0
+    ∷ numbers 0 133303 264 14295120000
+    ∷ numbers 0 1 0 14295120000
+    ∷ numbers 0 14295140000 0 0
+    ∷ numbers 0 14295140000 1 0
+    ∷ numbers 0 1 2537 14295139998
+    ∷ numbers 9 0 0 0
+    ∷ numbers 0 2 0 14295139998
+    ∷ numbers 14 0 0 0
+    ∷ numbers 0 0 0 0
+    ∷ []
+
+-- ---- the words of a second list
+
+-- Train 7 leaves and enters again: nothing of its first stay counts. Train 9 is held, lifted and held: the reports count from the
+-- hold after the lift. Its taking off (15) and its report beyond the worst case (9) are refused and count nowhere.
+abbrev pub secondCalls : List Call
+secondCalls =
+    enter 7 14295120000 2345 1 0
+    ∷ Own 7 Hold
+    ∷ Own 7 (report 14295120000 0)
+    ∷ TakeOff 7
+    ∷ enter 7 24295120000 2345 2 5
+    ∷ enter 9 1000000000 100 3 0
+    ∷ TakeOff 9
+    ∷ Own 9 Hold
+    ∷ Own 9 (report 1000000000 0)
+    ∷ Own 9 Lift
+    ∷ Own 9 Hold
+    ∷ Own 9 Hold
+    ∷ Own 9 (report 1000000000 0)
+    ∷ Own 9 (report 1000000001 0)
+    ∷ Own 9 (extend 3 500)
+    ∷ Own 9 (extend 3 500)
+    ∷ Own 9 (report 1000000000 0)
+    ∷ []
+
+pub record Words : Type 0 where
+  pub id : ℕ
+  pub start : ℕ
+  pub head : ℕ
+  pub speed : ℕ
+  pub rear : ℕ
+  pub end : ℕ
+  pub held : Option ℕ
+
+abbrev pub wordsOf : Stay → Words
+wordsOf s = record { id = s .entry .id; start = s .entry .start; head = headOf s; speed = speedOf s; rear = rearOf s; end = endOf s; held = heldFor (s .deeds) }
+
+abbrev pub wordsAfter : Opening → List Call → List Words
+wordsAfter o cs = map wordsOf (stays (history (openStep o .table) cs))
+
+abbrev pub secondWords : List Words
+secondWords =
+    record { id = 7; start = 5; head = 24295120000; speed = 0; rear = 10000000000; end = 24295120000; held = none }
+    ∷ record { id = 9; start = 0; head = 1000000000; speed = 0; rear = 390400000; end = 1000000500; held = some 2 }
+    ∷ []

@@ -1,0 +1,51 @@
+-- Document 01, "Orders" and "Authorities": a train record, in parts. A part that a call sets has a definition for its value on entering.
+use Prim.Native.Nat.{ℕ}
+use mathlib.Core.Bool.{Bool, false}
+use Rattle.brake.specs.declared.Figures.{Figures}
+use Rattle.brake.specs.declared.FiguresFound.{FiguresFound}
+use Rattle.brake.specs.Consist.{figuresOf}
+use Rattle.motion.specs.declared.Motion.{Motion}
+use Rattle.motion.specs.declared.Order.{Order}
+use Rattle.motion.specs.declared.Order.the-variants.{Brake}
+use Rattle.calls.specs.declared.Entry.{Entry}
+use Rattle.train.specs.declared.Settings.{Settings}
+use Rattle.train.specs.declared.Authority.{Authority}
+use Rattle.train.specs.declared.Marks.{Marks}
+use Rattle.train.specs.declared.Train.{Train}
+
+abbrev pub trainOf : ℕ → ℕ → Figures → Motion → Order → Authority → Marks → Train
+trainOf id l k m o a ms = record { id = id; length = l; figures = k; motion = m; order = o; authority = a; marks = ms }
+
+-- the brake figures of an entering train, or none (answer 4). They may come to depend on the line.
+abbrev pub figuresFor : Settings → Entry → FiguresFound
+figuresFor σ e = figuresOf (e .load) (e .length)
+
+-- Enter: end = head, and a starting request number for this stay; no length has been asked for
+abbrev pub freshAuthority : ℕ → ℕ → Authority
+freshAuthority h s = record { end = h; start = s; number = s; asked = 0 }
+
+-- not held
+abbrev pub freshMarks : Marks
+freshMarks = record { held = false }
+
+-- Enter: standing, order brake, level B
+abbrev pub entering : Entry → Figures → Train
+entering e k =
+    trainOf (e .id) (e .length) k (record { head = e .head; speed = 0; level = k .full }) Brake (freshAuthority (e .head) (e .start)) freshMarks
+
+-- the same train with another motion, order, authority or marks: id, length and figures are those of its entering
+abbrev pub same : Train → Motion → Order → Authority → Marks → Train
+same x m o a ms = trainOf (x .id) (x .length) (x .figures) m o a ms
+
+abbrev pub moved : Train → Motion → Order → Train
+moved x m o = same x m o (x .authority) (x .marks)
+
+abbrev pub authorised : Train → Authority → Train
+authorised x a = same x (x .motion) (x .order) a (x .marks)
+
+abbrev pub marked : Train → Marks → Train
+marked x ms = same x (x .motion) (x .order) (x .authority) ms
+
+-- the mark of a hold, set or taken away
+abbrev pub withHeld : Marks → Bool → Marks
+withHeld ms b = record { held = b }
