@@ -53,11 +53,11 @@ abbrev pub answerTo : FiguresFound → ℕ
 answerTo (Given k) = 0
 answerTo NoFigures = 4
 
--- ---- words of inner contracts
-
 -- full brake of class 2, the highest of the three
 abbrev pub greatestFull : ℕ
 greatestFull = 162039
+
+-- ---- words of inner contracts
 
 -- What code that computes with figures may take for granted: `figuresOf` gives no others (proofs/Consist: given-sound).
 -- Document 01 has no such word. It stands in `requires` clauses, so that no sum overflows and the brake grows.

@@ -1,6 +1,4 @@
--- What the code may take for granted, so that no sum overflows 64 bits. Document 01 has the ranges only: the records below
--- stand in `requires` clauses. Nobody outside passes figures, levels or speeds, and every report keeps these bounds
--- (proofs/Orders: within-report, within-bounded).
+-- The bounds within which motion is worked out, so that no sum overflows 64 bits. Document 01 has the ranges only.
 use Prim.Native.Nat.{ℕ, _+_, _≤_, _<_}
 use mathlib.Core.Bool.{Bool, _&&_}
 use mathlib.Core.Path.{_≡_}
@@ -15,6 +13,17 @@ use Rattle.motion.specs.Orders.{reach}
 -- No report leaves a higher speed: on flat track the ceiling holds while braking too.
 abbrev pub greatestSpeed : ℕ
 greatestSpeed = greatestCeiling
+
+-- the bounds of a train and a cap as a test, for a record of which nothing is known (proofs/Bounds: bounds-tested, bounds-hold)
+unfoldable pub inBounds : Figures → Motion → ℕ → Bool
+inBounds k m c =
+    leb 1 (k .growth) && leb (k .growth) (k .full) && leb (k .full) greatestFull && leb (m .level) (k .full)
+    && leb (m .head) greatestLineEnd && leb (m .speed) greatestSpeed && leb c greatestTraction
+
+-- ---- words of inner contracts
+
+-- What the code may take for granted. Nobody outside passes figures, levels or speeds, and every report keeps these bounds (proofs/Orders:
+-- within-report, within-bounded).
 
 -- a level that the brake can have
 pub record Level (k : Figures) (b : ℕ) : Type 0 where
@@ -48,9 +57,3 @@ pub record Halving (k : Figures) (goal : ℕ) (m : Motion) (high least : ℕ) : 
   pub known : least ≡ reach k m (Drive 0)
   pub kept : least ≤ goal
   pub beyond : goal < reach k m (Drive high)
-
--- the bounds of a train as a test, for a record of which nothing is known (proofs/Bounds: bounds-tested, bounds-hold)
-unfoldable pub inBounds : Figures → Motion → ℕ → Bool
-inBounds k m c =
-    leb 1 (k .growth) && leb (k .growth) (k .full) && leb (k .full) greatestFull && leb (m .level) (k .full)
-    && leb (m .head) greatestLineEnd && leb (m .speed) greatestSpeed && leb c greatestTraction

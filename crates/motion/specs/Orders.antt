@@ -56,7 +56,7 @@ greatest passes (suc n) = elim (passes (suc n)) [ true ↦ Drive (suc n) | false
 unfoldable pub orderFor : Figures → Limits → ℕ → Motion → Order
 orderFor k l goal m = greatest (capFits k l goal m) (l .traction)
 
--- ---- words of the code's inner contracts
+-- ---- words of inner contracts
 
 -- of the caps from 0 to A, those below n and no others keep v + c at most V
 pub record CapsAllowed (k : Figures) (l : Limits) (v n : ℕ) : Type 0 where

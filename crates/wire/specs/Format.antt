@@ -113,7 +113,7 @@ textOf (w ∷ ws) (n ∷ ns) = text w n ++ textOf ws ns
 unfoldable pub answerText : Numbers → List ℕ
 answerText a = textOf answerColumns (a .number ∷ a .first ∷ a .second ∷ a .third ∷ [])
 
--- ---- words of the code's inner contracts
+-- ---- words of inner contracts
 
 -- the number read so far
 abbrev pub soFar : Scan → ℕ
