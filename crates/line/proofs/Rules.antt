@@ -13,13 +13,14 @@ use Rattle.logic.proofs.Tests.{by-test, not-both}
 use Rattle.brake.specs.declared.Figures.{Figures}
 use Rattle.brake.specs.declared.FiguresFound.{FiguresFound}
 use Rattle.brake.specs.declared.FiguresFound.the-variants.{Given, NoFigures}
-use Rattle.brake.specs.Consist.{Sound}
+use Rattle.brake.specs.Consist.{Sound, figuresOf}
 use Rattle.motion.specs.declared.Motion.{Motion}
 use Rattle.motion.specs.declared.Order.{Order}
 use Rattle.motion.specs.declared.Order.the-variants.{Drive, Brake}
 use Rattle.motion.specs.Orders.{capFits, orderFor}
 use Rattle.motion.proofs.Greatest.{IsGreatest, Chosen, greatest-chosen, none-passes}
 use Rattle.motion.proofs.Orders.{MayOrder, fits-below, ordered-cap}
+use Rattle.calls.specs.declared.Opening.{Opening}
 use Rattle.calls.specs.declared.Entry.{Entry}
 use Rattle.calls.specs.declared.Reading.{Reading}
 use Rattle.calls.specs.declared.Asked.{Asked}
@@ -29,7 +30,7 @@ use Rattle.calls.specs.declared.Call.{Call}
 use Rattle.calls.specs.declared.Call.the-variants.{Enter, Own, TakeOff}
 use Rattle.calls.specs.declared.Refusal.{Refusal}
 use Rattle.calls.specs.declared.Refusal.the-variants.{NoTrack}
-use Rattle.calls.specs.declared.Answer.the-variants.{Entered, Ordered, Extended, Refused}
+use Rattle.calls.specs.declared.Answer.the-variants.{Entered, Ordered, Extended, Done, Refused}
 use Rattle.calls.specs.Answers.{numbers, numbersOf}
 use Rattle.calls.specs.Checks.{firstOf}
 use Rattle.train.specs.declared.Authority.{Authority}
@@ -40,7 +41,7 @@ use Rattle.train.specs.Track.{withinLimit}
 use Rattle.train.specs.Report.{motionAfter, goalOf, orderAfter, reported, reportAllowed}
 use Rattle.train.specs.Acts.{isOld, granted}
 use Rattle.train.specs.Checks.{actChecks}
-use Rattle.train.proofs.Records.{computable-bounded, report-passed, held-brakes, free-order, may-order}
+use Rattle.train.proofs.Records.{WorksWith, settings-given, figures-entered, computable-bounded, report-passed, held-brakes, free-order, may-order}
 use Rattle.table.specs.declared.Table.{Table}
 use Rattle.table.specs.declared.Found.{Found}
 use Rattle.table.specs.declared.Found.the-variants.{At, Nothing}
@@ -48,8 +49,8 @@ use Rattle.table.specs.Table.{findOf, trainAt, limitAt, withTrain}
 use Rattle.table.proofs.Places.{found-below, still-found, still-there}
 use Rattle.line.specs.declared.Outcome.{Outcome}
 use Rattle.line.specs.Checks.{enterChecks, takeOffChecks}
-use Rattle.line.specs.Step.{outcome, judged, enterStep, actAnswer, actStep, ownStep, takeOffStep, step}
-use Rattle.line.proofs.Steps.{own-unknown, report-refused, report-taken, extend-bad, extend-old, extend-other, extend-repeat, extend-beyond, extend-new}
+use Rattle.line.specs.Step.{outcome, judged, openStep, enterStep, actAnswer, actStep, ownStep, takeOffStep, step}
+use Rattle.line.proofs.Steps.{open-made, own-unknown, report-refused, report-taken, extend-bad, extend-old, extend-other, extend-repeat, extend-beyond, extend-new}
 
 -- ---- a refusal gives its number and zeros, and the whole table stays
 
@@ -94,12 +95,19 @@ refusal-keeps t c refuses = go (kept t c)
     go (inl e) = absurd (refuses e)
     go (inr stays) = stays
 
+-- ---- an accepted opening makes a table with the numbers that were given, and no train
+
+pub opened-with : (o : Opening) (t : Table) → openStep o ≡ outcome Done t → WorksWith o (t .settings) × (t .count ≡ 0)
+opened-with o t opened = rw (open-made o t opened .1) (settings-given o, refl)
+
 -- ---- an entering train's figures are the definitions'
 
 pub entering-figures : (t : Table) (e : Entry) (b j h : ℕ) → step t (Enter e) .answer ≡ Entered b j h
-    → (figuresFor (t .settings) e ≡ Given (record { full = b; growth = j })) × (h ≡ e .head)
+    → (figuresOf (e .load) (e .length) ≡ Given (record { full = b; growth = j })) × (h ≡ e .head)
 unfolding step enterStep
-entering-figures t e b j h q = go (figuresFor (t .settings) e) q
+entering-figures t e b j h q =
+    let (figures, head) = go (figuresFor (t .settings) e) q in
+    (sym (figures-entered (t .settings) e) ∙ figures, head)
   where
     taken : (k : Figures) (r : Option Refusal) (u : Table) → judged t r (outcome (Entered (k .full) (k .growth) (e .head)) u) .answer ≡ Entered b j h
         → (Given k ≡ Given (record { full = b; growth = j })) × (h ≡ e .head)

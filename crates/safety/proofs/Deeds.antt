@@ -10,7 +10,7 @@ use Rattle.calls.specs.declared.Act.{Act}
 use Rattle.calls.specs.declared.Act.the-variants.{Report, Extend, CallBack, Hold, Lift}
 use Rattle.calls.specs.declared.Numbers.{Numbers}
 use Rattle.train.specs.declared.Settings.{Settings}
-use Rattle.train.specs.Record.{freshMarks, same, withHeld}
+use Rattle.train.specs.Record.{same}
 use Rattle.safety.specs.History.{Deed, Stay, headBy, headOf, speedBy, speedOf, authorityBy, authorityOf, brakeOf, orderingBy, orderingOf, hasLift, reportsIn, heldFor}
 use Rattle.safety.specs.Claim.{isHeld, recordOf}
 use Rattle.safety.proofs.Stays.{withDeeds}
@@ -90,6 +90,6 @@ module _ (σ : Settings) (s : Stay) (d : Deed) where
       (record { head = headBy (headOf s) d; speed = speedBy (speedOf s) d; level = orderingBy (brakeOf σ s) (orderingOf σ s) d .level })
       (orderingBy (brakeOf σ s) (orderingOf σ s) d .order)
       (authorityBy (authorityOf s) d)
-      (withHeld freshMarks (isHeld (heldOn (heldFor (s .deeds)) (d ∷ []))))
+      (record { held = isHeld (heldOn (heldFor (s .deeds)) (d ∷ [])) })
   unfolding recordOf brakeOf
   record-deed = rw (head-deed, speed-deed, authority-deed, ordering-deed, held-deed)

@@ -22,43 +22,47 @@ use Rattle.safety.proofs.Line.{Steady, Lined}
 use Rattle.safety.proofs.Told.{told-count}
 use Rattle.safety.proofs.Calls.{told}
 
-module _ (σ : Settings) (ahead : Option Stay) (s : Stay) (t : Steady σ ahead s) where
+module _ (o : Opening) (ahead : Option Stay) (s : Stay) (t : Steady (settingsOf o) ahead s) where
   head-end : headOf s ≤ endOf s
   unfolding recordOf
-  head-end = guarded-head σ _ (recordOf σ s) (t .guarded)
+  head-end = guarded-head (settingsOf o) _ (recordOf (settingsOf o) s) (t .guarded)
 
-  held-stands : (n : ℕ) → heldFor (s .deeds) ≡ some n → heldReports σ s ≤ n → Stands σ s
+  held-stands : (n : ℕ) → heldFor (s .deeds) ≡ some n → heldReports o s ≤ n → Stands o s
   unfolding recordOf
   held-stands n e enough =
+      let σ = settingsOf o in
       let slowing = subst (Slowing σ (recordOf σ s)) e (t .slowing) in
-      slowed-stands (brakeOf σ s) (σ .limits .ceiling) (n - 1) (recordOf σ s .motion) (t .guarded .figures) (omega arith) (slowing (omega arith) .1)
+      slowed-stands (brakeOf σ s) (o .ceiling) (n - 1) (recordOf σ s .motion) (t .guarded .figures) (omega arith) (slowing (omega arith) .1)
 
-  alone : Alone σ s
+  alone : Alone o s
   unfolding recordOf
   alone = record { rear-on-line = t .guarded .rear-on-line; head-within-end = head-end; held-stands = held-stands }
 
-separate : (σ : Settings) (ahead : Option Stay) (s : Stay) → Steady σ ahead s → Separate σ ahead s
+separate : (o : Opening) (ahead : Option Stay) (s : Stay) → Steady (settingsOf o) ahead s → Separate o ahead s
 unfolding recordOf rearOf
-separate σ none s t = rw (limit-first σ) at (t .guarded .end-in-limit)
-separate σ (some a) s t = let sum = in-behind σ (recordOf σ a) (endOf s) (t .guarded .end-in-limit) in omega arith
+separate o none s t = rw (limit-first (settingsOf o)) at (t .guarded .end-in-limit)
+separate o (some a) s t =
+    let σ = settingsOf o in
+    let sum = in-behind σ (recordOf σ a) (endOf s) (t .guarded .end-in-limit) in
+    omega arith
 
 rear-head : (s : Stay) → rearOf s ≤ headOf s
 unfolding rearOf
 rear-head s = omega arith
 
 -- those behind a have their heads at or before the rear of p, if a has its rear there
-clear : (σ : Settings) (p a : Stay) (ss : List Stay) → rearOf a ≤ rearOf p → Lined σ (some a) ss → Clear p ss
-clear σ p a [] h l = tt
-clear σ p a (s ∷ ss) h l =
-    let apart = separate σ (some a) s (l .0) in
-    let head = head-end σ (some a) s (l .0) in
+clear : (o : Opening) (p a : Stay) (ss : List Stay) → rearOf a ≤ rearOf p → Lined (settingsOf o) (some a) ss → Clear p ss
+clear o p a [] h l = tt
+clear o p a (s ∷ ss) h l =
+    let apart = separate o (some a) s (l .0) in
+    let head = head-end o (some a) s (l .0) in
     let rear = rear-head s in
-    (omega arith, clear σ p s ss (omega arith) (l .2))
+    (omega arith, clear o p s ss (omega arith) (l .2))
 
-safe : (σ : Settings) (ahead : Option Stay) (ss : List Stay) → Lined σ ahead ss → Safe σ ahead ss
-safe σ ahead [] l = tt
-safe σ ahead (s ∷ ss) l =
-    (alone σ ahead s (l .0), separate σ ahead s (l .0), clear σ s s ss (omega arith) (l .2), safe σ (some s) ss (l .2))
+safe : (o : Opening) (ahead : Option Stay) (ss : List Stay) → Lined (settingsOf o) ahead ss → Safe o ahead ss
+safe o ahead [] l = tt
+safe o ahead (s ∷ ss) l =
+    (alone o ahead s (l .0), separate o ahead s (l .0), clear o s s ss (omega arith) (l .2), safe o (some s) ss (l .2))
 
 -- for every accepted opening and every list of calls on the table that it made
 pub demand-3 : (o : Opening) (t : Table) → openStep o ≡ outcome Done t → (cs : List Call) → Demand3 o t cs
@@ -68,7 +72,7 @@ demand-3 o t opened cs =
     let T = told o t opened cs in
     let es = history t cs in
     record {
-      claim = safe σ none (stays es) (subst (λ (ρ : Settings). Lined ρ none (stays es)) (T .settings) (T .lined));
+      claim = safe o none (stays es) (subst (λ (ρ : Settings). Lined ρ none (stays es)) (T .settings) (T .lined));
       settings = T .settings;
       count = told-count σ es _ T;
       trains = T .trains ∙ ap (λ (ρ : Settings). map (recordOf ρ) (stays es)) (T .settings);

@@ -1,19 +1,41 @@
--- Laws of one train record: what a report is judged by, and the order that it gets.
+-- Laws of the settings and of one train record: what an opening and an entering give, what a report is judged by, and the order that it
+-- gets.
 -- Assumes nothing.
 use mathlib.Core.Bool.{true, false, _&&_}
 use mathlib.Core.Logic.{inl, inr}
-use mathlib.Core.Path.{_≡_}
+use mathlib.Core.Path.{_≡_, refl}
 use Rattle.logic.proofs.Tests.{by-test, both}
+use Rattle.brake.specs.Consist.{figuresOf}
 use Rattle.motion.specs.declared.Motion.{Motion}
 use Rattle.motion.specs.declared.Order.the-variants.{Brake}
 use Rattle.motion.specs.Orders.{orderCap, orderFor}
 use Rattle.motion.specs.Bounds.{Bounded}
 use Rattle.motion.proofs.Bounds.{bounds-tested}
 use Rattle.motion.proofs.Orders.{MayOrder}
+use Rattle.calls.specs.declared.Opening.{Opening}
+use Rattle.calls.specs.declared.Entry.{Entry}
 use Rattle.calls.specs.declared.Reading.{Reading}
 use Rattle.train.specs.declared.Settings.{Settings}
 use Rattle.train.specs.declared.Train.{Train}
+use Rattle.train.specs.Ranges.{settingsOf}
+use Rattle.train.specs.Record.{figuresFor}
 use Rattle.train.specs.Report.{allowed, motionAfter, goalOf, orderAfter, computable, reportAllowed}
+
+-- the table works with the numbers that were opened
+pub record WorksWith (o : Opening) (σ : Settings) : Type 0 where
+  pub end : σ .end ≡ o .end
+  pub safety : σ .safety ≡ o .safety
+  pub ceiling : σ .limits .ceiling ≡ o .ceiling
+  pub traction : σ .limits .traction ≡ o .traction
+
+pub settings-given : (o : Opening) → WorksWith o (settingsOf o)
+settings-given o = record { end = refl; safety = refl; ceiling = refl; traction = refl }
+
+-- an entering train's figures are those of its own load class and length
+pub figures-entered : (σ : Settings) (e : Entry) → figuresFor σ e ≡ figuresOf (e .load) (e .length)
+figures-entered σ e = refl
+
+-- ---- a report
 
 pub computable-bounded : (x : Train) → computable x ≡ true → Bounded (x .figures) (x .motion) (orderCap (x .order))
 unfolding computable
