@@ -4,14 +4,14 @@ use native.Mathlib.Numerals.{add-one}
 use native.Mathlib.Omega.{arith}
 use mathlib.Core.Path.{_≡_, refl, sym, ap, _∙_}
 use mathlib.Core.List.{List, [], _∷_, _++_}
-use lib.ListN.{length, take, drop, getD, set, length-append, List·getD-append}
+use lib.ListN.{length, take, drop, set, length-append}
 use lib.Seq.{take-suc-set, take-all, take-at, length-take-le, getD-at, drop-drop, paste, paste-suc, length-paste, take-paste, drop-paste}
 use lib.Dec.{leb}
 use borrow.Author.Tests.{le-leb, lt-leb}
 use Rattle.logic.proofs.Tests.{by-test}
 use Rattle.calls.specs.declared.Numbers.{Numbers}
 use Rattle.calls.specs.Answers.{numbers}
-use Rattle.wire.specs.Format.{answerWidth}
+use Rattle.wire.specs.Format.{answerWidth, answerText}
 use Rattle.wire.proofs.RoundTrip.{answer-long}
 use Rattle.stream.specs.declared.Stream.{Stream}
 use Rattle.stream.specs.Input.{outputLine, lastAnswer, keptWidth, kept, outputWidth, over, lastWritten}
@@ -29,24 +29,6 @@ keep-full l n b h k =
     let t : take n l ≡ l = take-all n l (omega arith) in
     rw t (sym (take-at l (b ∷ []) keptWidth h))
 
--- ---- an answer's line and its line feed, written over those of out from place `at` on
-
-module _ (out line : List ℕ) (at : ℕ) (whole : length line ≡ answerWidth) (room : at + outputWidth ≤ length out) where
-  abbrev pub pasted : ℕ → List ℕ
-  pasted i = paste out at (line ++ (10 ∷ [])) i
-
-  long : length (line ++ (10 ∷ [])) ≡ outputWidth
-  long = simp (length-append, whole)
-
-  pub pasted-byte : (i : ℕ) → i < answerWidth → set (pasted i) (at + i) (getD line i 0) ≡ pasted (i + 1)
-  pasted-byte i h =
-      rw (add-one i, ← List·getD-append line (10 ∷ []) 0 i (omega arith)) (paste-suc out at (line ++ (10 ∷ [])) i 0 (omega arith) (omega (arith, long)))
-
-  pub pasted-feed : set (pasted answerWidth) (at + answerWidth) 10 ≡ pasted outputWidth
-  pasted-feed =
-      ap (λ (b : ℕ). set (pasted answerWidth) (at + answerWidth) b) (sym (getD-at line 10 [] 0 answerWidth whole))
-      ∙ paste-suc out at (line ++ (10 ∷ [])) answerWidth 0 (omega arith) (omega (arith, long))
-
 -- ---- an output line in its place
 
 pub output-long : (a : Numbers) → length (outputLine a) ≡ outputWidth
@@ -54,6 +36,15 @@ unfolding outputLine
 output-long a = simp (length-append, answer-long a)
 
 module _ (out : List ℕ) (at : ℕ) (a : Numbers) (room : at + outputWidth ≤ length out) where
+  -- an answer's columns, and a line feed after them
+  pub line-ended : set (paste out at (answerText a) answerWidth) (at + answerWidth) 10 ≡ paste out at (outputLine a) outputWidth
+  unfolding outputLine
+  line-ended =
+      let long = answer-long a in
+      let columns = take-all answerWidth (answerText a) (omega arith) ∙ sym (take-at (answerText a) (10 ∷ []) answerWidth long) in
+      let next = paste-suc out at (outputLine a) answerWidth 0 (omega arith) (omega (arith, output-long a)) in
+      rw columns (rw (getD-at (answerText a) 10 [] 0 answerWidth long) at next)
+
   pub output-all : length (paste out at (outputLine a) outputWidth) ≡ length out
   output-all = length-paste out at (outputLine a) outputWidth room (omega (arith, output-long a))
 

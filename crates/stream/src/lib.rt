@@ -179,12 +179,7 @@ fn put_line(out: &mut [u8], at: usize, a: Numbers)
     requires { ⌜ at + outputWidth ≤ length (now out) ⌝ }
     ensures { λ _. ⌜ now (out .exit) ≡ paste (now (out .entry)) at (outputLine a) outputWidth ⌝ }
 {
-    let line = wire::render(a);
-    let mut i: usize = 0;
-    while i < wire::ANSWER_WIDTH {
-        out[at + i] = line[i];
-        i += 1;
-    }
+    wire::render(a, out, at);
     out[at + wire::ANSWER_WIDTH] = 10;
 }
 

@@ -5,6 +5,7 @@ use mathlib.Core.Option.{Option, none, some}
 use mathlib.Core.List.{List, [], _∷_, _++_}
 use lib.Dec.{eqb, leb}
 use lib.ListN.{length, take, drop, replicate}
+use lib.Seq.{paste}
 use Rattle.calls.specs.declared.Numbers.{Numbers}
 use Rattle.calls.specs.declared.RequestRead.{RequestRead}
 use Rattle.calls.specs.declared.RequestRead.the-variants.{Unreadable}
@@ -112,6 +113,14 @@ textOf (w ∷ ws) (n ∷ ns) = text w n ++ textOf ws ns
 -- an output line without its line feed
 unfoldable pub answerText : Numbers → List ℕ
 answerText a = textOf answerColumns (a .number ∷ a .first ∷ a .second ∷ a .third ∷ [])
+
+-- room in the buffer out for that line, from place `at` on
+abbrev pub roomAt : List ℕ → ℕ → Bool
+roomAt out at = leb (at + answerWidth) (length out)
+
+-- out with that line written over its bytes from place `at` on; without room it stays
+abbrev pub rendered : Numbers → List ℕ → ℕ → List ℕ
+rendered a out at = cond (roomAt out at) (paste out at (answerText a) answerWidth) out
 
 -- ---- words of inner contracts
 

@@ -1,9 +1,9 @@
 // The session's lines: an input line to what it asks, an answer to its bytes. Document 01, "The session program".
 ghost use mathlib.Core.Path.{_≡_};
-ghost use mathlib.Core.List.{_++_};
-ghost use Prim.Native.Nat.{_-_, _≤_, _<_};
-ghost use lib.ListN.{length, drop};
-ghost use Rattle.wire.specs.Format.{digit as digitAfter, column as columnAfter, soFar, fieldOf, callColumns, callWidth, answerWidth, numbersIn, rowNumbers, lineRead, digitOf, leftDigit, text, answerText};
+ghost use Prim.Native.Nat.{_+_, _≤_, _<_};
+ghost use lib.ListN.{length};
+ghost use lib.Seq.{paste};
+ghost use Rattle.wire.specs.Format.{digit as digitAfter, column as columnAfter, soFar, fieldOf, callColumns, callWidth, numbersIn, rowNumbers, lineRead, digitOf, text, roomAt, rendered};
 use calls::Numbers;
 use calls::ROW;
 use calls::RequestRead;
@@ -13,17 +13,19 @@ const CALL_COLUMNS: [usize; ROW] = [2, 14, 14, 14, 14, 14];
 
 pub const CALL_WIDTH: usize = CALL_COLUMNS[0] + (ROW - 1) * CALL_COLUMNS[1];
 
-// The columns of an output line: the answer and three numbers.
-const ANSWER_COLUMNS: [usize; 4] = [2, 14, 14, 14];
+// The columns of an output line: the answer, and each of its three numbers.
+const CODE: usize = 2;
+
+const NUMBER: usize = 14;
 
 // Where these three begin.
-const FIRST: usize = ANSWER_COLUMNS[0];
+const FIRST: usize = CODE;
 
-const SECOND: usize = FIRST + ANSWER_COLUMNS[1];
+const SECOND: usize = FIRST + NUMBER;
 
-const THIRD: usize = SECOND + ANSWER_COLUMNS[2];
+const THIRD: usize = SECOND + NUMBER;
 
-pub const ANSWER_WIDTH: usize = THIRD + ANSWER_COLUMNS[3];
+pub const ANSWER_WIDTH: usize = THIRD + NUMBER;
 
 // The columns of a field read so far: spaces, then digits that make a number. Bad: no field begins so.
 pub enum Scan {
@@ -152,40 +154,39 @@ fn digit_of(n: u64) -> u8
     48 + (n % 10) as u8
 }
 
-// A column left of a number's last digit: a digit of what is left of it, or a space where nothing is left.
-fn left_digit(n: u64) -> u8
-    ensures { λ r. ⌜ r ≡ leftDigit n ⌝ }
+// n right-justified in so many columns of out, from place `at` on.
+fn put(out: &mut [u8], at: usize, width: usize, n: u64)
+    requires { ⌜ (0 < width) × (at + width ≤ length (now out)) ⌝ }
+    ensures { λ _. ⌜ now (out .exit) ≡ paste (now (out .entry)) at (text width n) width ⌝ }
 {
-    if n == 0 {
-        return 32;
-    }
-    digit_of(n)
-}
-
-// n right-justified in line[from..to]. The columns after it stay.
-fn put(line: [u8; ANSWER_WIDTH], from: usize, to: usize, n: u64) -> [u8; ANSWER_WIDTH]
-    requires { ⌜ (from < to) × (to ≤ answerWidth) ⌝ }
-    ensures { λ r. ⌜ drop from r ≡ text (to - from) n ++ drop to line ⌝ }
-{
-    let mut out = line;
-    let mut i = to - 1;
-    out[i] = digit_of(n);
+    let mut i = width - 1;
+    out[at + i] = digit_of(n);
     let mut rest = n / 10;
-    while from < i {
+    while 0 < i && 0 < rest {
         i -= 1;
-        out[i] = left_digit(rest);
+        out[at + i] = digit_of(rest);
         rest = rest / 10;
     }
-    out
+    while 0 < i {
+        i -= 1;
+        out[at + i] = 32;
+    }
 }
 
-// The output line of an answer, without its line feed.
-pub fn render(a: Numbers) -> [u8; ANSWER_WIDTH]
-    ensures { λ r. ⌜ r ≡ answerText a ⌝ }
+// Writes the output line of an answer, without its line feed, into out from place `at` on, and tells whether there was room. Without
+// room nothing is written.
+pub fn render(a: Numbers, out: &mut [u8], at: usize) -> bool
+    ensures { λ r. ⌜ (r ≡ roomAt (now (out .entry)) at) × (now (out .exit) ≡ rendered a (now (out .entry)) at) ⌝ }
 {
-    let line = [32u8; ANSWER_WIDTH];
-    let line = put(line, THIRD, ANSWER_WIDTH, a.third);
-    let line = put(line, SECOND, THIRD, a.second);
-    let line = put(line, FIRST, SECOND, a.first);
-    put(line, 0, FIRST, a.number)
+    if out.len() < ANSWER_WIDTH {
+        return false;
+    }
+    if out.len() - ANSWER_WIDTH < at {
+        return false;
+    }
+    put(out, at + THIRD, NUMBER, a.third);
+    put(out, at + SECOND, NUMBER, a.second);
+    put(out, at + FIRST, NUMBER, a.first);
+    put(out, at, CODE, a.number);
+    true
 }

@@ -1,83 +1,104 @@
 -- `wire::put` meets its contract.
 -- Assumes nothing.
-use Prim.Native.Nat.{ℕ, suc, _-_, _≤_, _<_}
+use Prim.Native.Nat.{ℕ, suc, _-_}
 use native.Mathlib.Omega.{arith}
+use mathlib.Core.Logic.{⊎-elim}
 use mathlib.Core.Path.{_≡_, refl, sym, ap, _∙_}
-use mathlib.Core.List.{_++_}
-use lib.ListN.{length, drop}
+use lib.ListN.{length, length-set}
+use lib.Seq.{paste}
 use borrow.Author.Needs.{needs}
-use Rattle.wire.specs.Format.{answerWidth, left, text}
-use Rattle.wire.proofs.Texts.{text-last, left-next, left-none}
+use borrow.Author.Tests.{ne-eqb, ltb-true, ltb-false}
+use Rattle.wire.specs.Format.{text}
+use Rattle.wire.proofs.Texts.{filled, Putting, putting-next, put-last, put-none, put-all}
 use Rattle.wire.proofs.put.Statement.{statement}
 use Rattle.wire.proofs.put.Tie as tie
 
 abbrev Inv-loop : tie.InvT-loop
-Inv-loop from to n out₀ i₀ rest₀ out i rest =
-    (from ≤ i) × (i < answerWidth) × (length out ≡ answerWidth)
-    × (left (i₀ - from) rest₀ ++ drop i₀ out₀ ≡ left (i - from) rest ++ drop i out)
+Inv-loop out₀ at width n i₀ rest₀ out i rest = Putting out₀ at i₀ rest₀ out i rest
 
 abbrev μ-loop : tie.MeasureT-loop
-μ-loop from to n out₀ i₀ rest₀ out i rest = i - from
+μ-loop out₀ at width n i₀ rest₀ out i rest = i
 
-sub-i : tie.Need-sub-i Inv-loop μ-loop
+abbrev Inv-loop2 : tie.InvT-loop2
+Inv-loop2 out₀ at width n i₀ rest out i = Putting out₀ at i₀ 0 out i 0
+
+abbrev μ-loop2 : tie.MeasureT-loop2
+μ-loop2 out₀ at width n i₀ rest out i = i
+
+-- out is as long as at the start
+long : (s : tie.At-loop Inv-loop μ-loop Inv-loop2 μ-loop2) → length (s .loop .out) ≡ length (s .before .before .before .args .out .now)
+long s = s .loop .inv .size ∙ length-set (s .before .before .before .args .out .now) _ _
+
+sub-i : tie.Need-sub-i Inv-loop μ-loop Inv-loop2 μ-loop2
 sub-i c = omega arith
 
-digit-of-requires : tie.Need-digit-of-requires Inv-loop μ-loop
+digit-of-requires : tie.Need-digit-of-requires Inv-loop μ-loop Inv-loop2 μ-loop2
 digit-of-requires c κs = search needs
 
-array-write-out : tie.Need-array-write-out Inv-loop μ-loop
-array-write-out c = search needs
+add-out : tie.Need-add-out Inv-loop μ-loop Inv-loop2 μ-loop2
+add-out c = omega arith
 
-loop-holds : tie.Need-loop-holds Inv-loop μ-loop
-loop-holds c = (omega arith, omega arith, search needs, refl)
+slice-write-out : tie.Need-slice-write-out Inv-loop μ-loop Inv-loop2 μ-loop2
+slice-write-out c = omega arith
 
-sub-i-2 : tie.Need-sub-i-2 Inv-loop μ-loop
+loop-holds : tie.Need-loop-holds Inv-loop μ-loop Inv-loop2 μ-loop2
+loop-holds c = record { within = simp length-set (omega arith); size = refl; same = refl }
+
+sub-i-2 : tie.Need-sub-i-2 Inv-loop μ-loop Inv-loop2 μ-loop2
 sub-i-2 c = omega arith
 
-left-digit-requires : tie.Need-left-digit-requires Inv-loop μ-loop
-left-digit-requires c κs = search needs
+digit-of-requires-2 : tie.Need-digit-of-requires-2 Inv-loop μ-loop Inv-loop2 μ-loop2
+digit-of-requires-2 c κs = search needs
 
-array-write-out-2 : tie.Need-array-write-out-2 Inv-loop μ-loop
-array-write-out-2 c = search needs
+add-out-2 : tie.Need-add-out-2 Inv-loop μ-loop Inv-loop2 μ-loop2
+add-out-2 c = omega (arith, long (c .before .before .before))
 
-loop-less : tie.Need-loop-less Inv-loop μ-loop
+slice-write-out-2 : tie.Need-slice-write-out-2 Inv-loop μ-loop Inv-loop2 μ-loop2
+slice-write-out-2 c = omega arith
+
+loop-less : tie.Need-loop-less Inv-loop μ-loop Inv-loop2 μ-loop2
 loop-less c = omega arith
 
-loop-again : tie.Need-loop-again Inv-loop μ-loop
+loop-again : tie.Need-loop-again Inv-loop μ-loop Inv-loop2 μ-loop2
 loop-again c =
-    let s = c .before .before in
-    let a = s .before .before .args in
-    let i : ℕ = s .loop .i in
-    let f : ℕ = a .from in
-    let w : i - f ≡ suc (i - 1 - f) = omega arith in
-    let j : i ≡ suc (i - 1) = omega arith in (
-      omega arith,
-      omega arith,
-      search needs,
-      s .loop .inv .3
-          ∙ ap (λ (k : ℕ). left k (s .loop .rest) ++ drop i (s .loop .out)) w
-          ∙ ap (λ (k : ℕ). left (suc (i - 1 - f)) (s .loop .rest) ++ drop k (s .loop .out)) j
-          ∙ left-next (s .loop .out) (i - 1 - f) (i - 1) (s .loop .rest) (omega arith)
-          ∙ rw (c .left-digit .ensures) refl,
-    )
+    let s = c .before .before .before in
+    let more = ne-eqb (s .loop .rest) 0 (λ e. omega (arith, ltb-true)) in
+    putting-next (s .loop .inv) (omega arith) (rw more (c .digit-of2 .ensures))
 
-returns : tie.Need-returns Inv-loop μ-loop
+loop2-holds : tie.Need-loop2-holds Inv-loop μ-loop Inv-loop2 μ-loop2
+loop2-holds c = record { within = omega arith; size = refl; same = refl }
+
+sub-i-3 : tie.Need-sub-i-3 Inv-loop μ-loop Inv-loop2 μ-loop2
+sub-i-3 c = omega arith
+
+add-out-3 : tie.Need-add-out-3 Inv-loop μ-loop Inv-loop2 μ-loop2
+add-out-3 c = omega (arith, long (c .before .before .before))
+
+slice-write-out-3 : tie.Need-slice-write-out-3 Inv-loop μ-loop Inv-loop2 μ-loop2
+slice-write-out-3 c = omega arith
+
+loop2-less : tie.Need-loop2-less Inv-loop μ-loop Inv-loop2 μ-loop2
+loop2-less c = omega arith
+
+loop2-again : tie.Need-loop2-again Inv-loop μ-loop Inv-loop2 μ-loop2
+loop2-again c = putting-next (c .before .loop2 .inv) (omega arith) refl
+
+same-length : tie.Need-same-length Inv-loop μ-loop Inv-loop2 μ-loop2
+same-length c = c .before .loop2 .inv .size ∙ long (c .before .before .before)
+
+returns : tie.Need-returns Inv-loop μ-loop Inv-loop2 μ-loop2
 returns c =
-    let s = c .before in
-    let b = s .before in
-    let a = b .before .args in
-    let f : ℕ = a .from in
-    let first : s .loop .i ≡ f = omega arith in
-    let none : s .loop .i - f ≡ 0 = omega arith in
-    let long : length (a .line) ≡ answerWidth = search needs in
-    let w : a .to - f ≡ suc (a .to - 1 - f) = omega arith in
-    let j : a .to ≡ suc (a .to - 1) = omega arith in
-    let last =
-    ap (λ (k : ℕ). text k (a .n) ++ drop (a .to) (a .line)) w
-    ∙ ap (λ (k : ℕ). text (suc (a .to - 1 - f)) (a .n) ++ drop k (a .line)) j
-    ∙ text-last (a .line) (a .to - 1 - f) (a .to - 1) (a .n) (omega arith) in
-    let rest = rw (b .digit-of .ensures) at (s .loop .inv .3) in
-    sym (last ∙ (rw (none, left-none, first) at rest))
+    let b = c .before in
+    let s = b .before .before in
+    let a = s .before .before .before .args in
+    let at = a .at in
+    let l = a .out .now in
+    let last : a .width ≡ suc (a .width - 1) = omega arith in
+    let none = put-none (s .loop .out) at (s .loop .i) (s .loop .rest) (λ h. ⊎-elim (λ w. omega (arith, ltb-false)) (λ w. omega arith) (b .before .loop-test .came)) in
+    let end : b .loop2 .i ≡ 0 = omega arith in
+    sym (ap (λ (w : ℕ). paste l at (text w (a .n)) w) last
+    ∙ put-last l at (a .width - 1) (a .n) _ (omega arith) (s .before .digit-of .ensures)
+    ∙ s .loop .inv .same ∙ none ∙ b .loop2 .inv .same ∙ ap (λ (i : ℕ). filled (b .loop2 .out) at i 0) end ∙ put-all (b .loop2 .out) at 0)
 
 pub put-spec : {M : Type 1} → statement M
 put-spec =
@@ -85,13 +106,24 @@ put-spec =
     (tie.spec
     Inv-loop
     μ-loop
+    Inv-loop2
+    μ-loop2
     sub-i
     digit-of-requires
-    array-write-out
+    add-out
+    slice-write-out
     loop-holds
     sub-i-2
-    left-digit-requires
-    array-write-out-2
+    digit-of-requires-2
+    add-out-2
+    slice-write-out-2
     loop-less
     loop-again
+    loop2-holds
+    sub-i-3
+    add-out-3
+    slice-write-out-3
+    loop2-less
+    loop2-again
+    same-length
     returns)

@@ -1,16 +1,45 @@
 -- `wire::render` meets its contract.
 -- Assumes nothing.
-use mathlib.Core.Path.{refl, _∙_}
+use Prim.Native.Nat.{ℕ, _+_, _≤_, _<_}
+use native.Mathlib.Omega.{arith}
+use mathlib.Core.Bool.{false}
+use mathlib.Core.Path.{_≡_, refl, _∙_}
+use mathlib.Core.List.{List}
+use lib.ListN.{length}
+use borrow.Author.Tests.{lt-leb, le-leb}
 use borrow.Author.Needs.{needs}
-use Rattle.wire.specs.Format.{answerText, textOf}
+use Rattle.calls.specs.declared.Numbers.{Numbers}
+use Rattle.wire.specs.Format.{answerWidth, roomAt, rendered}
+use Rattle.wire.proofs.Texts.{answer-put}
 use Rattle.wire.proofs.render.Statement.{statement}
 use Rattle.wire.proofs.render.Tie as tie
+
+no-room : (a : Numbers) (out : List ℕ) (at : ℕ) → length out < at + answerWidth → (false ≡ roomAt out at) × (out ≡ rendered a out at)
+no-room a out at h = let e = lt-leb (at + answerWidth) (length out) h in (rw e refl, rw e refl)
+
+returns : tie.Need-returns
+returns c = let a = c .before .before .args in no-room (a .a) (a .out .now) (a .at) (omega arith)
+
+sub-if2 : tie.Need-sub-if2
+sub-if2 c = search needs
+
+returns-2 : tie.Need-returns-2
+returns-2 c = let a = c .before .before .before .args in no-room (a .a) (a .out .now) (a .at) (omega arith)
+
+add-put : tie.Need-add-put
+add-put c = search needs
 
 put-requires : tie.Need-put-requires
 put-requires c κs = search needs
 
+add-put-2 : tie.Need-add-put-2
+add-put-2 c = search needs
+
 put-requires-2 : tie.Need-put-requires-2
 put-requires-2 c κs = search needs
+
+add-put-3 : tie.Need-add-put-3
+add-put-3 c = search needs
 
 put-requires-3 : tie.Need-put-requires-3
 put-requires-3 c κs = search needs
@@ -18,12 +47,34 @@ put-requires-3 c κs = search needs
 put-requires-4 : tie.Need-put-requires-4
 put-requires-4 c κs = search needs
 
-returns : tie.Need-returns
-unfolding answerText textOf
-returns c =
-    c .put4 .ensures
-    ∙ rw (c .before .put3 .ensures, c .before .before .put2 .ensures, c .before .before .before .put .ensures) refl
+same-length : tie.Need-same-length
+same-length c = search needs
+
+returns-3 : tie.Need-returns-3
+returns-3 c =
+    let p4 = c .before .before in
+    let p3 = p4 .before .before .before .before in
+    let p2 = p3 .before .before .before .before in
+    let p1 = p2 .before .before .before .before in
+    let a = p1 .before .before .before .before .before .args in
+    let d = a .out .now in
+    let room : a .at + answerWidth ≤ length d = omega arith in
+    let e = le-leb (a .at + answerWidth) (length d) room in
+    (rw e refl, rw e (p4 .put4 .ensures ∙ rw (p3 .put3 .ensures, p2 .put2 .ensures, p1 .put .ensures) (answer-put d (a .at) (a .a) room)))
 
 pub render-spec : {M : Type 1} → statement M
 render-spec =
-    tie.close (tie.spec put-requires put-requires-2 put-requires-3 put-requires-4 returns)
+    tie.close
+    (tie.spec
+    returns
+    sub-if2
+    returns-2
+    add-put
+    put-requires
+    add-put-2
+    put-requires-2
+    add-put-3
+    put-requires-3
+    put-requires-4
+    same-length
+    returns-3)
