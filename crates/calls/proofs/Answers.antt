@@ -1,17 +1,27 @@
--- The numbers of the refusals.
+-- Which answers accept, and the numbers of the refusals.
 -- Assumes nothing.
 use Prim.Native.Nat.{_≤_}
 use mathlib.Core.Bool.{false}
-use mathlib.Core.Path.{_≡_}
+use mathlib.Core.Path.{_≡_, refl}
 use native.Mathlib.Omega.{arith}
 use lib.Dec.{eqb}
 use borrow.Author.Tests.{ne-eqb}
 use Rattle.calls.specs.declared.Refusal.{Refusal}
-use Rattle.calls.specs.declared.Refusal.the-variants.{BadSetting, BadEntry, OnLine, LineFull, BadHead, NoTrain, NotAllowed, BadRequest, OldNumber, OtherLength, NoTrack, BadPlace, NotLeaving}
-use Rattle.calls.specs.Answers.{refusalNumber}
+use Rattle.calls.specs.declared.Refusal.the-variants.{BadLine, OutOfTurn, BadSetting, BadEntry, OnLine, LineFull, BadHead, NoTrain, NotAllowed, BadRequest, OldNumber, OtherLength, NoTrack, BadPlace, NotLeaving}
+use Rattle.calls.specs.declared.Answer.the-variants.{Accepted}
+use Rattle.calls.specs.declared.Values.{Values}
+use Rattle.calls.specs.declared.Values.the-variants.{Entered, Ordered, Extended, Zeros}
+use Rattle.calls.specs.Answers.{refusalNumber, numbersOf}
 
--- 1 and 2 are the session's own
-pub refusal-range : (r : Refusal) → (3 ≤ refusalNumber r) × (refusalNumber r ≤ 15)
+pub accepted-0 : (v : Values) → numbersOf (Accepted v) .number ≡ 0
+accepted-0 (Entered full growth end) = refl
+accepted-0 (Ordered o r) = refl
+accepted-0 (Extended end repeat) = refl
+accepted-0 Zeros = refl
+
+pub refusal-range : (r : Refusal) → (1 ≤ refusalNumber r) × (refusalNumber r ≤ 15)
+refusal-range BadLine = omega arith
+refusal-range OutOfTurn = omega arith
 refusal-range BadSetting = omega arith
 refusal-range BadEntry = omega arith
 refusal-range OnLine = omega arith

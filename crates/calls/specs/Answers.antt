@@ -3,12 +3,17 @@ use Prim.Native.Nat.{ℕ}
 use mathlib.Core.Bool.{cond}
 use Rattle.motion.specs.Orders.{orderNumber, orderCap}
 use Rattle.calls.specs.declared.Refusal.{Refusal}
-use Rattle.calls.specs.declared.Refusal.the-variants.{BadSetting, BadEntry, OnLine, LineFull, BadHead, NoTrain, NotAllowed, BadRequest, OldNumber, OtherLength, NoTrack, BadPlace, NotLeaving}
+use Rattle.calls.specs.declared.Refusal.the-variants.{BadLine, OutOfTurn, BadSetting, BadEntry, OnLine, LineFull, BadHead, NoTrain, NotAllowed, BadRequest, OldNumber, OtherLength, NoTrack, BadPlace, NotLeaving}
 use Rattle.calls.specs.declared.Answer.{Answer}
-use Rattle.calls.specs.declared.Answer.the-variants.{Entered, Ordered, Extended, Done, Refused}
+use Rattle.calls.specs.declared.Answer.the-variants.{Accepted, Refused}
+use Rattle.calls.specs.declared.Values.the-variants.{Entered, Ordered, Extended, Zeros}
 use Rattle.calls.specs.declared.Numbers.{Numbers}
 
 abbrev pub refusalNumber : Refusal → ℕ
+-- the typist of the input: line unreadable
+refusalNumber BadLine = 1
+-- call before an accepted opening, or an opening after one
+refusalNumber OutOfTurn = 2
 -- the owner of the line: a setting out of range
 refusalNumber BadSetting = 3
 -- the yard: id, length, load class or starting number out of range
@@ -42,11 +47,11 @@ numbers n a b c = record { number = n; first = a; second = b; third = c }
 -- Answer 0 is acceptance; a refusal gives its number and zeros.
 abbrev pub numbersOf : Answer → Numbers
 -- enter: B, j, end
-numbersOf (Entered full growth end) = numbers 0 full growth end
+numbersOf (Accepted (Entered full growth end)) = numbers 0 full growth end
 -- report: 1 drive or 2 brake, cap (0 with brake), reach
-numbersOf (Ordered o r) = numbers 0 (orderNumber o) (orderCap o) r
+numbersOf (Accepted (Ordered o r)) = numbers 0 (orderNumber o) (orderCap o) r
 -- extend: end, 1 for a repeat
-numbersOf (Extended end repeat) = numbers 0 end (cond repeat 1 0) 0
+numbersOf (Accepted (Extended end repeat)) = numbers 0 end (cond repeat 1 0) 0
 -- the rest: zeros
-numbersOf Done = numbers 0 0 0 0
+numbersOf (Accepted Zeros) = numbers 0 0 0 0
 numbersOf (Refused r) = numbers (refusalNumber r) 0 0 0

@@ -71,6 +71,8 @@ pub const ROW: usize = 6;
 
 // What is turned down.
 pub enum Refusal {
+    BadLine,
+    OutOfTurn,
     BadSetting,
     BadEntry,
     OnLine,
@@ -86,13 +88,18 @@ pub enum Refusal {
     NotLeaving,
 }
 
-// The answer to a call. Entered: B, j and end. Ordered: the order and its reach. Extended: the end, and whether the request
-// is a repeat. Done: the other accepted calls.
-pub enum Answer {
+// What an accepted call gives. Entered: B, j and end. Ordered: the order and its reach. Extended: the end, and whether the request
+// is a repeat. The other calls: zeros.
+pub enum Values {
     Entered(u64, u64, u64),
     Ordered(Order, u64),
     Extended(u64, bool),
-    Done,
+    Zeros,
+}
+
+// The answer to a call.
+pub enum Answer {
+    Accepted(Values),
     Refused(Refusal),
 }
 
@@ -110,6 +117,8 @@ fn refusal_number(r: Refusal) -> u64
     ensures { λ n. ⌜ n ≡ refusalNumber r ⌝ }
 {
     match r {
+        Refusal::BadLine => 1,
+        Refusal::OutOfTurn => 2,
         Refusal::BadSetting => 3,
         Refusal::BadEntry => 4,
         Refusal::OnLine => 5,
@@ -126,35 +135,44 @@ fn refusal_number(r: Refusal) -> u64
     }
 }
 
-// Document 01's number of an answer and its three values.
-pub fn numbers_of(a: Answer) -> Numbers
-    ensures { λ r. ⌜ r ≡ numbersOf a ⌝ }
+// Answer 0 is acceptance.
+fn numbers_given(v: Values) -> Numbers
+    ensures { λ r. ⌜ r ≡ numbersOf (Answer.Accepted v) ⌝ }
 {
-    match a {
-        Answer::Entered(full, growth, end) => Numbers {
+    match v {
+        Values::Entered(full, growth, end) => Numbers {
             number: 0,
             first: full,
             second: growth,
             third: end,
         },
-        Answer::Ordered(o, reach) => Numbers {
+        Values::Ordered(o, reach) => Numbers {
             number: 0,
             first: motion::order_number(o),
             second: motion::order_cap(o),
             third: reach,
         },
-        Answer::Extended(end, repeat) => Numbers {
+        Values::Extended(end, repeat) => Numbers {
             number: 0,
             first: end,
             second: repeat as u64,
             third: 0,
         },
-        Answer::Done => Numbers {
+        Values::Zeros => Numbers {
             number: 0,
             first: 0,
             second: 0,
             third: 0,
         },
+    }
+}
+
+// Document 01's number of an answer and its three values.
+pub fn numbers_of(a: Answer) -> Numbers
+    ensures { λ r. ⌜ r ≡ numbersOf a ⌝ }
+{
+    match a {
+        Answer::Accepted(v) => numbers_given(v),
         Answer::Refused(r) => Numbers {
             number: refusal_number(r),
             first: 0,

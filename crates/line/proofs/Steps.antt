@@ -1,197 +1,200 @@
--- Laws of one call: what each of its checks leads to. Whoever cites these opens neither `step` nor the lists of checks.
+-- Laws of one call: any call at once, and what each of its checks leads to. Whoever cites these opens neither `decideOn` nor the lists of
+-- checks.
 -- Assumes nothing.
-use Prim.Native.Nat.{ℕ, _+_, _≤_, _<_}
-use mathlib.Core.Bool.{Bool, true, false, cond, _&&_}
-use mathlib.Core.Path.{_≡_, sym, ap, _∙_}
+use Prim.Native.Nat.{ℕ, _≤_, _<_}
+use mathlib.Core.Bool.{true, false, not, _&&_}
+use mathlib.Core.Option.{Option, none, some}
+use mathlib.Core.List.{[], _∷_}
+use mathlib.Core.Path.{_≡_, refl, sym, ap, _∙_}
 use native.Mathlib.Omega.{arith}
-use lib.ListN.{set}
-use lib.Seq.{set-getD}
-use borrow.Author.Tests.{le-leb, lt-leb, eq-eqb, ne-eqb}
+use lib.ListN.{length, length-take}
+use borrow.Author.Tests.{le-leb, lt-leb, leb-false, not-false}
 use Rattle.logic.proofs.Tests.{by-test}
 use Rattle.ranges.specs.Ranges.{idInRange, startInRange}
 use Rattle.brake.specs.declared.Figures.{Figures}
+use Rattle.brake.specs.declared.FiguresFound.{FiguresFound}
 use Rattle.brake.specs.declared.FiguresFound.the-variants.{Given, NoFigures}
 use Rattle.calls.specs.declared.Opening.{Opening}
 use Rattle.calls.specs.declared.Entry.{Entry}
-use Rattle.calls.specs.declared.Reading.{Reading}
-use Rattle.calls.specs.declared.Asked.{Asked}
 use Rattle.calls.specs.declared.Act.{Act}
-use Rattle.calls.specs.declared.Act.the-variants.{Report, Extend, CallBack, Hold, Lift}
+use Rattle.calls.specs.declared.Call.{Call}
 use Rattle.calls.specs.declared.Call.the-variants.{Enter, Own, TakeOff}
-use Rattle.calls.specs.declared.Refusal.the-variants.{BadSetting, BadEntry, OnLine, LineFull, BadHead, NoTrain, NotAllowed, BadRequest, OldNumber, OtherLength, NoTrack, BadPlace, NotLeaving}
-use Rattle.calls.specs.declared.Answer.the-variants.{Entered, Ordered, Extended, Done}
-use Rattle.calls.specs.Checks.{firstOf}
-use Rattle.train.specs.declared.Authority.{Authority}
+use Rattle.calls.specs.declared.Request.the-variants.{OnTable}
+use Rattle.calls.specs.declared.Refusal.{Refusal}
+use Rattle.calls.specs.declared.Refusal.the-variants.{BadSetting, BadEntry, OnLine, LineFull, BadHead, NoTrain, NotLeaving}
+use Rattle.calls.specs.declared.Answer.the-variants.{Accepted}
+use Rattle.calls.specs.declared.Values.{Values}
+use Rattle.calls.specs.declared.Values.the-variants.{Entered, Zeros}
+use Rattle.calls.specs.Checks.{check, firstOf}
+use Rattle.calls.proofs.Checks.{passed}
 use Rattle.train.specs.declared.Train.{Train}
-use Rattle.train.specs.Ranges.{settingsInRange, settingsOf, requestInRange}
-use Rattle.train.specs.Record.{figuresFor, entering, authorised}
+use Rattle.train.specs.declared.Limit.{Limit}
+use Rattle.train.specs.declared.Verdict.{Verdict}
+use Rattle.train.specs.declared.Verdict.the-variants.{TurnedDown, Passed}
+use Rattle.train.specs.Ranges.{settingsInRange, settingsOf}
+use Rattle.train.specs.Record.{figuresFor, entering}
 use Rattle.train.specs.Track.{stepsOf, withinLimit}
-use Rattle.train.specs.Report.{reachOf, reported, reportAllowed}
-use Rattle.train.specs.Acts.{isRepeat, isOld, granted, calledBack, callBackAllowed, holding, acted, mayLeave}
-use Rattle.train.proofs.Acts.{acted-report, acted-repeat, acted-new, acted-call-back, acted-hold, acted-lift}
+use Rattle.train.specs.Acts.{mayLeave}
+use Rattle.train.specs.Decide.{Ruling, decide, verdictBy, verdict}
 use Rattle.table.specs.declared.Table.{Table}
-use Rattle.table.specs.declared.Found.the-variants.{At, Nothing}
-use Rattle.table.specs.Table.{blankTrain, places, emptyTable, findOf, trainAt, limitAt, withTrain, withLast, withoutFirst}
+use Rattle.table.specs.declared.Change.{Change}
+use Rattle.table.specs.declared.Change.the-variants.{Put, Add, DropFirst, Anew}
+use Rattle.table.specs.Table.{places, emptyTable, placeOf, trainAt, limitAt, Fits}
+use Rattle.table.proofs.Places.{found-among, found-below, FoundAt}
+use Rattle.line.specs.declared.Decision.{Decision}
 use Rattle.line.specs.declared.Outcome.{Outcome}
-use Rattle.line.specs.Step.{outcome, refused, noTable, openStep, enterStep, actStep, ownStep, takeOffStep, step}
+use Rattle.line.specs.Decide.{refused, accepted, judged, openDecision, enterChecks, enterDecision, rulingAt, actDecision, takeOffDecision, named, decideOn}
+use Rattle.line.specs.Step.{outcome, openStep}
+
+-- ---- any call: refused, or accepted with all checks passed
+
+-- accepted: no check applies
+judged-any : (o : Option Refusal) (v : Values) (c : Change) (P : Decision → Type 0) → ((r : Refusal) → P (refused r)) → (o ≡ none → P (accepted v c))
+    → P (judged o v c)
+judged-any none v c P refuses accepts = accepts refl
+judged-any (some r) v c P refuses accepts = refuses r
+
+named-any : (f : Option ℕ) (d : ℕ → Decision) (P : Decision → Type 0) → ((r : Refusal) → P (refused r)) → ((i : ℕ) → f ≡ some i → P (d i)) → P (named f d)
+named-any none d P refuses accepts = refuses NoTrain
+named-any (some i) d P refuses accepts = accepts i refl
+
+-- what has to be shown of each call and its decision, so that it holds of every one
+pub record Any (t : Table) (P : Call → Decision → Type 0) : Type 0 where
+  pub refuses : (c : Call) (r : Refusal) → P c (refused r)
+  pub enters : (e : Entry) (k : Figures) → figuresFor (t .settings) e ≡ Given k → firstOf (enterChecks t e) ≡ none
+      → P (Enter e) (accepted (Entered (k .full) (k .growth) (e .head)) (Add (entering e k)))
+  pub acts : (id i : ℕ) (a : Act) → placeOf t id ≡ some i → firstOf (rulingAt t a i .checks) ≡ none
+      → P (Own id a) (accepted (rulingAt t a i .gives) (Put i (rulingAt t a i .after)))
+  pub leaves : (id i : ℕ) → placeOf t id ≡ some i → mayLeave i (trainAt t i) ≡ true → P (TakeOff id) (accepted Zeros DropFirst)
+
+pub any-call : (t : Table) (P : Call → Decision → Type 0) → Any t P → (c : Call) → P c (decideOn t (OnTable c))
+unfolding decideOn enterDecision actDecision takeOffDecision
+any-call t P any (Enter e) = go (figuresFor (t .settings) e) refl
+  where
+    go : (f : FiguresFound) → figuresFor (t .settings) e ≡ f → P (Enter e) (enterDecision t e f)
+    go NoFigures q = any .refuses _ BadEntry
+    go (Given k) q = judged-any (firstOf (enterChecks t e)) _ _ (P (Enter e)) (any .refuses _) (any .enters e k q)
+any-call t P any (Own id a) =
+    named-any (placeOf t id) _ (P (Own id a)) (any .refuses _)
+    (λ i q. judged-any (firstOf (rulingAt t a i .checks)) _ _ (P (Own id a)) (any .refuses _) (any .acts id i a q))
+any-call t P any (TakeOff id) =
+    named-any (placeOf t id) _ (P (TakeOff id)) (any .refuses _)
+    (λ i q.
+    judged-any (firstOf (check (not (mayLeave i (trainAt t i))) NotLeaving ∷ [])) _ _ (P (TakeOff id)) (any .refuses _)
+    (λ e. any .leaves id i q (not-false _ (passed _ NotLeaving [] e .0))))
+
+-- the table has the place that the change needs
+pub decided-fits : (t : Table) → length (t .trains) ≡ places → (c : Call) → Fits t (decideOn t (OnTable c) .change)
+decided-fits t size =
+    any-call t (λ c d. Fits t (d .change))
+    (record {
+      refuses = λ c r. tt;
+      enters = λ e k q passes. leb-false places (t .count) (passed _ _ _ (passed _ _ _ (passed _ _ _ passes .1) .1) .0);
+      acts = λ id i a q passes. let among = found-among t id i q in let all = length-take (t .count) (t .trains) in omega arith;
+      leaves = λ id i q may. let below = found-below t id i q in omega arith;
+    })
 
 -- ---- open
 
-pub open-taken : (o : Opening) → settingsInRange o ≡ true → openStep o ≡ outcome Done (emptyTable (settingsOf o))
-unfolding openStep
-open-taken o e = rw (e, openStep)
+pub open-taken : (o : Opening) → settingsInRange o ≡ true → openDecision o ≡ accepted Zeros (Anew (settingsOf o))
+unfolding openDecision firstOf
+open-taken o e = rw (e, openDecision)
 
-pub open-refused : (o : Opening) → settingsInRange o ≡ false → openStep o ≡ refused noTable BadSetting
-unfolding openStep
-open-refused o e = rw (e, openStep)
+pub open-refused : (o : Opening) → settingsInRange o ≡ false → openDecision o ≡ refused BadSetting
+unfolding openDecision firstOf
+open-refused o e = rw (e, openDecision)
+
+pub open-fits : (t : Table) (o : Opening) → Fits t (openDecision o .change)
+open-fits t o = by-test (settingsInRange o) (λ e. rw (open-taken o e) tt) (λ e. rw (open-refused o e) tt)
 
 -- what an accepted opening has passed, and made
-pub open-made : (o : Opening) (t : Table) → openStep o ≡ outcome Done t → (settingsInRange o ≡ true) × (t ≡ emptyTable (settingsOf o))
+pub open-made : (o : Opening) (t : Table) → openStep o ≡ outcome (Accepted Zeros) t → (settingsInRange o ≡ true) × (t ≡ emptyTable (settingsOf o))
+unfolding openStep
 open-made o t opened =
     by-test (settingsInRange o)
-    (λ e. (e, ap (λ (u : Outcome). u .table) (sym opened ∙ open-taken o e)))
-    (λ e. let z : _≡_ {A = ℕ} 0 1 = cc (ap (λ (u : Outcome). u .answer) (sym opened ∙ open-refused o e)) in absurd (omega arith))
+    (λ e. (e, ap (λ (u : Outcome). u .table) (sym opened) ∙ rw (open-taken o e)))
+    (λ e.
+    let no = sym (ap (λ (d : Decision). d .answer) (open-refused o e)) ∙ ap (λ (u : Outcome). u .answer) opened in
+    let z : _≡_ {A = ℕ} 0 1 = cc in absurd (omega arith))
 
 -- ---- enter
 
 module _ (t : Table) (e : Entry) where
-  pub enter-unfit : figuresFor (t .settings) e ≡ NoFigures → step t (Enter e) ≡ refused t BadEntry
-  unfolding step enterStep
-  enter-unfit f = ap (enterStep t e) f
+  pub enter-unfit : figuresFor (t .settings) e ≡ NoFigures → decideOn t (OnTable (Enter e)) ≡ refused BadEntry
+  unfolding decideOn enterDecision
+  enter-unfit f = ap (enterDecision t e) f
 
-  pub enter-fit : (k : Figures) → figuresFor (t .settings) e ≡ Given k → step t (Enter e) ≡ enterStep t e (Given k)
-  unfolding step
-  enter-fit k f = ap (enterStep t e) f
+  pub enter-fit : (k : Figures) → figuresFor (t .settings) e ≡ Given k → decideOn t (OnTable (Enter e)) ≡ enterDecision t e (Given k)
+  unfolding decideOn
+  enter-fit k f = ap (enterDecision t e) f
 
   module _ (k : Figures) where
-    pub enter-bad : (idInRange (e .id) && startInRange (e .start)) ≡ false → enterStep t e (Given k) ≡ refused t BadEntry
-    unfolding enterStep firstOf
-    enter-bad a = rw (a, enterStep)
+    pub enter-bad : (idInRange (e .id) && startInRange (e .start)) ≡ false → enterDecision t e (Given k) ≡ refused BadEntry
+    unfolding enterDecision firstOf
+    enter-bad a = rw (a, enterDecision)
 
     module _ (a : (idInRange (e .id) && startInRange (e .start)) ≡ true) where
-      pub enter-known : (i : ℕ) → findOf t (e .id) ≡ At i → enterStep t e (Given k) ≡ refused t OnLine
-      unfolding enterStep firstOf
-      enter-known i b = rw (a, b, enterStep)
+      pub enter-known : (i : ℕ) → placeOf t (e .id) ≡ some i → enterDecision t e (Given k) ≡ refused OnLine
+      unfolding enterDecision firstOf
+      enter-known i b = rw (a, b, enterDecision)
 
-      module _ (b : findOf t (e .id) ≡ Nothing) where
-        pub enter-full : places ≤ t .count → enterStep t e (Given k) ≡ refused t LineFull
-        unfolding enterStep firstOf
-        enter-full c = rw (a, b, le-leb places (t .count) c, enterStep)
+      module _ (b : placeOf t (e .id) ≡ none) where
+        pub enter-full : places ≤ t .count → enterDecision t e (Given k) ≡ refused LineFull
+        unfolding enterDecision firstOf
+        enter-full c = rw (a, b, le-leb places (t .count) c, enterDecision)
 
         module _ (c : t .count < places) where
-          pub enter-short : e .head < stepsOf (e .length) → enterStep t e (Given k) ≡ refused t BadHead
-          unfolding enterStep firstOf
-          enter-short d = rw (a, b, lt-leb places (t .count) c, lt-leb (stepsOf (e .length)) (e .head) d, enterStep)
+          pub enter-short : e .head < stepsOf (e .length) → enterDecision t e (Given k) ≡ refused BadHead
+          unfolding enterDecision firstOf
+          enter-short d = rw (a, b, lt-leb places (t .count) c, lt-leb (stepsOf (e .length)) (e .head) d, enterDecision)
 
-          pub enter-beyond : stepsOf (e .length) ≤ e .head → withinLimit (limitAt t (t .count)) (e .head) ≡ false → enterStep t e (Given k) ≡ refused t BadHead
-          unfolding enterStep firstOf
-          enter-beyond d f = rw (a, b, lt-leb places (t .count) c, le-leb (stepsOf (e .length)) (e .head) d, f, enterStep)
+          pub enter-beyond : stepsOf (e .length) ≤ e .head → withinLimit (limitAt t (t .count)) (e .head) ≡ false → enterDecision t e (Given k) ≡ refused BadHead
+          unfolding enterDecision firstOf
+          enter-beyond d f = rw (a, b, lt-leb places (t .count) c, le-leb (stepsOf (e .length)) (e .head) d, f, enterDecision)
 
           pub enter-taken : stepsOf (e .length) ≤ e .head → withinLimit (limitAt t (t .count)) (e .head) ≡ true
-              → enterStep t e (Given k) ≡ outcome (Entered (k .full) (k .growth) (e .head)) (withLast t (entering e k))
-          unfolding enterStep firstOf
-          enter-taken d f = rw (a, b, lt-leb places (t .count) c, le-leb (stepsOf (e .length)) (e .head) d, f, enterStep)
+              → enterDecision t e (Given k) ≡ accepted (Entered (k .full) (k .growth) (e .head)) (Add (entering e k))
+          unfolding enterDecision firstOf
+          enter-taken d f = rw (a, b, lt-leb places (t .count) c, le-leb (stepsOf (e .length)) (e .head) d, f, enterDecision)
 
 -- ---- no such train
 
-pub own-unknown : (t : Table) (id : ℕ) (a : Act) → findOf t id ≡ Nothing → step t (Own id a) ≡ refused t NoTrain
-unfolding step ownStep
-own-unknown t id a e = ap (ownStep t a) e
+pub own-unknown : (t : Table) (id : ℕ) (a : Act) → placeOf t id ≡ none → decideOn t (OnTable (Own id a)) ≡ refused NoTrain
+unfolding decideOn
+own-unknown t id a e = ap (λ (o : Option ℕ). named o (actDecision t a)) e
 
-pub take-off-unknown : (t : Table) (id : ℕ) → findOf t id ≡ Nothing → step t (TakeOff id) ≡ refused t NoTrain
-unfolding step takeOffStep
-take-off-unknown t id e = ap (takeOffStep t) e
+pub take-off-unknown : (t : Table) (id : ℕ) → placeOf t id ≡ none → decideOn t (OnTable (TakeOff id)) ≡ refused NoTrain
+unfolding decideOn
+take-off-unknown t id e = ap (λ (o : Option ℕ). named o (takeOffDecision t)) e
 
 -- ---- the train x, found at place i
 
-module _ (t : Table) (id i : ℕ) (x : Train) (found : findOf t id ≡ At i) (here : x ≡ trainAt t i) where
-  pub own-found : (a : Act) → step t (Own id a) ≡ actStep t i x (acted (t .settings) a x) a
-  unfolding step ownStep
-  own-found a = ap (ownStep t a) found ∙ (rw here)
+-- what the verdict on an act of the train at place i decides
+abbrev pub placed : ℕ → Verdict → Decision
+placed i (TurnedDown r) = refused r
+placed i (Passed v y) = accepted v (Put i y)
 
-  -- report
-  pub report-refused : (r : Reading) → reportAllowed (t .settings) x r ≡ false → step t (Own id (Report r)) ≡ refused t NotAllowed
-  unfolding actStep firstOf
-  report-refused r e = own-found (Report r) ∙ (rw (e, actStep))
+placed-judged : (i : ℕ) (o : Option Refusal) (d : Ruling) → judged o (d .gives) (Put i (d .after)) ≡ placed i (verdictBy o d)
+placed-judged i none d = refl
+placed-judged i (some r) d = refl
 
-  pub report-taken : (r : Reading) → reportAllowed (t .settings) x r ≡ true
-      → step t (Own id (Report r)) ≡ outcome (Ordered (reported (t .settings) x r .order) (reachOf (reported (t .settings) x r))) (withTrain t i (reported (t .settings) x r))
-  unfolding actStep firstOf
-  report-taken r e = own-found (Report r) ∙ (rw (acted-report, e, actStep))
+module _ (t : Table) (id i : ℕ) (limit : Limit) (x : Train) (f : FoundAt t (placeOf t id) i limit x) where
+  pub own-found : (a : Act) → decideOn t (OnTable (Own id a)) ≡ placed i (verdict (decide (t .settings) limit x a))
+  unfolding decideOn actDecision
+  own-found a =
+      ap (λ (o : Option ℕ). named o (actDecision t a)) (f .place)
+      ∙ placed-judged i (firstOf (rulingAt t a i .checks)) (rulingAt t a i)
+      ∙ ap (λ (l : Limit). placed i (verdict (decide (t .settings) l (trainAt t i) a))) (sym (f .limited))
+      ∙ ap (λ (y : Train). placed i (verdict (decide (t .settings) limit y a))) (sym (f .here))
 
-  -- extend
-  module _ (q : Asked) where
-    abbrev mine : Authority
-    mine = x .authority
+  take-off-found : decideOn t (OnTable (TakeOff id)) ≡ takeOffDecision t i
+  unfolding decideOn
+  take-off-found = ap (λ (o : Option ℕ). named o (takeOffDecision t)) (f .place)
 
-    pub extend-bad : requestInRange (t .settings) q ≡ false → step t (Own id (Extend q)) ≡ refused t BadRequest
-    unfolding actStep firstOf
-    extend-bad e = own-found (Extend q) ∙ (rw (e, actStep))
+  pub take-off-refused : mayLeave i x ≡ false → decideOn t (OnTable (TakeOff id)) ≡ refused NotLeaving
+  unfolding takeOffDecision firstOf
+  take-off-refused e = take-off-found ∙ (rw (← (f .here), e, takeOffDecision))
 
-    module _ (ranged : requestInRange (t .settings) q ≡ true) where
-      pub extend-old : isOld mine q ≡ true → step t (Own id (Extend q)) ≡ refused t OldNumber
-      unfolding actStep firstOf
-      extend-old e = own-found (Extend q) ∙ (rw (ranged, e, actStep))
-
-      module _ (fresh : isOld mine q ≡ false) where
-        pub extend-other : q .number ≡ mine .number → (q .length ≡ mine .asked → ⊥) → step t (Own id (Extend q)) ≡ refused t OtherLength
-        unfolding actStep firstOf isRepeat
-        extend-other e f = own-found (Extend q) ∙ (rw (ranged, fresh, eq-eqb (q .number) (mine .number) e, ne-eqb (q .length) (mine .asked) f, actStep))
-
-        pub extend-repeat : q .number ≡ mine .number → q .length ≡ mine .asked → step t (Own id (Extend q)) ≡ outcome (Extended (mine .end) true) t
-        unfolding actStep firstOf isRepeat
-        extend-repeat e f =
-            own-found (Extend q)
-            ∙ (rw (
-              acted-repeat (t .settings) x q (eq-eqb (q .number) (mine .number) e),
-              ranged,
-              fresh,
-              eq-eqb (q .number) (mine .number) e,
-              eq-eqb (q .length) (mine .asked) f,
-              actStep,
-            ) (rw (ap (set (t .trains) i) here ∙ set-getD (t .trains) i blankTrain)))
-
-        pub extend-beyond : (q .number ≡ mine .number → ⊥) → withinLimit (limitAt t i) (mine .end + q .length) ≡ false → step t (Own id (Extend q)) ≡ refused t NoTrack
-        unfolding actStep firstOf isRepeat
-        extend-beyond e f = own-found (Extend q) ∙ (rw (ranged, fresh, ne-eqb (q .number) (mine .number) e, f, actStep))
-
-        pub extend-new : (q .number ≡ mine .number → ⊥) → withinLimit (limitAt t i) (mine .end + q .length) ≡ true
-            → step t (Own id (Extend q)) ≡ outcome (Extended (mine .end + q .length) false) (withTrain t i (authorised x (granted mine q)))
-        unfolding actStep firstOf isRepeat
-        extend-new e f =
-            own-found (Extend q) ∙ (rw (acted-new (t .settings) x q (ne-eqb (q .number) (mine .number) e), ranged, fresh, ne-eqb (q .number) (mine .number) e, f, actStep))
-
-  -- call back
-  pub call-back-refused : (place : ℕ) → callBackAllowed x place ≡ false → step t (Own id (CallBack place)) ≡ refused t BadPlace
-  unfolding actStep firstOf
-  call-back-refused place e = own-found (CallBack place) ∙ (rw (e, actStep))
-
-  pub call-back-taken : (place : ℕ) → callBackAllowed x place ≡ true → step t (Own id (CallBack place)) ≡ outcome Done (withTrain t i (calledBack x place))
-  unfolding actStep firstOf
-  call-back-taken place e = own-found (CallBack place) ∙ (rw (acted-call-back, e, actStep))
-
-  -- hold and lift
-  hold-taken : step t (Own id Hold) ≡ outcome Done (withTrain t i (holding x true))
-  unfolding actStep firstOf
-  hold-taken = own-found Hold ∙ (rw acted-hold)
-
-  lift-taken : step t (Own id Lift) ≡ outcome Done (withTrain t i (holding x false))
-  unfolding actStep firstOf
-  lift-taken = own-found Lift ∙ (rw acted-lift)
-
-  pub mark-taken : (b : Bool) → step t (Own id (cond b Hold Lift)) ≡ outcome Done (withTrain t i (holding x b))
-  mark-taken true = hold-taken
-  mark-taken false = lift-taken
-
-  -- take off
-  take-off-found : step t (TakeOff id) ≡ takeOffStep t (At i)
-  unfolding step
-  take-off-found = ap (takeOffStep t) found
-
-  pub take-off-refused : mayLeave i x ≡ false → step t (TakeOff id) ≡ refused t NotLeaving
-  unfolding takeOffStep firstOf
-  take-off-refused e = take-off-found ∙ (rw (← here, e, takeOffStep))
-
-  pub take-off-taken : mayLeave i x ≡ true → step t (TakeOff id) ≡ outcome Done (withoutFirst t)
-  unfolding takeOffStep firstOf
-  take-off-taken e = take-off-found ∙ (rw (← here, e, takeOffStep))
+  pub take-off-taken : mayLeave i x ≡ true → decideOn t (OnTable (TakeOff id)) ≡ accepted Zeros DropFirst
+  unfolding takeOffDecision firstOf
+  take-off-taken e = take-off-found ∙ (rw (← (f .here), e, takeOffDecision))

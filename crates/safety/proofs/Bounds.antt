@@ -3,11 +3,10 @@
 use Prim.Native.Nat.{ℕ, zero, suc, _≤_, _<_}
 use mathlib.Core.Bool.{true}
 use mathlib.Core.Logic.{inl}
-use mathlib.Core.Option.{Option, none, some}
-use mathlib.Core.List.{List, [], _∷_, map}
+use mathlib.Core.List.{List, [], _∷_}
 use mathlib.Core.Path.{_≡_, refl, _∙_}
 use native.Mathlib.Omega.{arith}
-use lib.ListN.{length, getD}
+use lib.ListN.{length}
 use borrow.Author.Tests.{le-leb}
 use Rattle.logic.proofs.Tests.{by-test, both}
 use Rattle.motion.specs.declared.Order.the-variants.{Brake}
@@ -21,26 +20,28 @@ use Rattle.calls.specs.declared.Opening.{Opening}
 use Rattle.calls.specs.declared.Reading.{Reading}
 use Rattle.train.specs.declared.Settings.{Settings}
 use Rattle.train.specs.declared.Limit.{Limit}
-use Rattle.train.proofs.Track.{limit-first}
+use Rattle.train.proofs.Track.{InLimit, limit-first}
 use Rattle.train.specs.declared.Train.{Train}
 use Rattle.table.specs.declared.Table.{Table}
 use Rattle.calls.specs.declared.Call.{Call}
-use Rattle.calls.specs.declared.Answer.the-variants.{Done}
+use Rattle.calls.specs.declared.Answer.the-variants.{Accepted}
+use Rattle.calls.specs.declared.Values.the-variants.{Zeros}
 use Rattle.ranges.specs.Ranges.{between, lineEndInRange, safetyInRange, ceilingInRange, tractionInRange}
 use Rattle.train.specs.Ranges.{settingsInRange, settingsOf}
-use Rattle.table.specs.Table.{blankTrain, trainAt}
+use Rattle.table.specs.Table.{trainAt, limitAt}
 use Rattle.train.specs.Report.{reachOf, allowed, motionAfter, computable, reportAllowed}
 use Rattle.train.specs.Acts.{callBackAllowed}
 use Rattle.line.specs.Step.{outcome, openStep}
-use Rattle.safety.specs.History.{history, after, Stay, stays}
-use Rattle.safety.specs.Claim.{recordOf}
 use Rattle.ranges.proofs.Ranges.{between-both}
 use Rattle.line.proofs.Steps.{open-made}
 use Rattle.train.proofs.Checks.{allowed-no-worse}
+use Rattle.safety.specs.History.{history, after, Told, told}
+use Rattle.safety.specs.Claim.{recordOf}
 use Rattle.safety.proofs.Train.{Guarded, guarded-head}
-use Rattle.safety.proofs.Line.{Lined, limitOf, Wider, wider-end}
-use Rattle.safety.proofs.Told.{told-count, told-train}
-use Rattle.safety.proofs.Calls.{told}
+use Rattle.safety.proofs.Acts.{Steady}
+use Rattle.safety.proofs.Line.{Lined, firstLimit, behind, limitIn, lined-at, Wider, wider-end}
+use Rattle.safety.proofs.Tables.{agrees-count, agrees-train, agrees-limit}
+use Rattle.safety.proofs.Calls.{agrees}
 
 -- ---- one train
 
@@ -57,18 +58,17 @@ ranges o e =
     let one = both (lineEndInRange (o .end)) (safetyInRange (o .safety)) (two .0) in
     record { end = between-both _ _ _ (one .0) .1; ceiling = between-both _ _ _ (two .1) .1; traction = between-both _ _ _ (three .1) .1 }
 
--- a train on the line whose end is on it too
-pub record OnTrack (σ : Settings) (x : Train) : Type 0 where
-  pub limit : Limit
+-- a train on the line with this limit, whose end is on it too
+pub record OnTrack (σ : Settings) (limit : Limit) (x : Train) : Type 0 where
   pub guarded : Guarded σ limit x
   pub end : x .authority .end ≤ σ .end
 
-module _ (σ : Settings) (ρ : InRange σ) (x : Train) (t : OnTrack σ x) where
+module _ (σ : Settings) (ρ : InRange σ) (limit : Limit) (x : Train) (t : OnTrack σ limit x) where
   track-computable : computable x ≡ true
   unfolding computable
   track-computable =
       let g = t .guarded in
-      let head = guarded-head σ (t .limit) x g in
+      let head = guarded-head σ limit x g in
       bounds-hold (x .figures) (x .motion) (orderCap (x .order))
       (within-bounded (x .figures) (σ .limits) (x .motion) (x .order) (g .figures) (ρ .ceiling) (ρ .traction) (omega arith) (g .within))
 
@@ -97,37 +97,63 @@ module _ (σ : Settings) (ρ : InRange σ) (x : Train) (t : OnTrack σ x) where
 
 -- ---- all trains
 
-lined-track : (σ : Settings) (ahead : Option Stay) (ss : List Stay) (i : ℕ) → Wider (limitOf σ ahead) (limitOf σ none)
-    → Lined σ ahead ss → i < length ss → OnTrack σ (getD (map (recordOf σ) ss) i blankTrain)
-lined-track σ ahead [] i wider l h = absurd (omega arith)
-lined-track σ ahead (s ∷ ss) zero wider l h =
+-- no limit lies beyond the line end
+limits-in-line : (σ : Settings) (limit : Limit) (xs : List Told) (i : ℕ) → Wider limit (firstLimit σ) → Lined σ limit xs → i ≤ length xs
+    → Wider (limitIn σ limit xs i) (firstLimit σ)
+limits-in-line σ limit xs zero wider l h = wider
+limits-in-line σ limit [] (suc i) wider l h = absurd (omega arith)
+limits-in-line σ limit (x ∷ xs) (suc i) wider l h =
     let g = l .0 .guarded in
-    record { limit = limitOf σ ahead; guarded = g; end = rw (limit-first σ) at (wider _ (g .end-in-limit)) }
-lined-track σ ahead (s ∷ ss) (suc i) wider l h =
-    let g = l .0 .guarded in
-    lined-track σ (some s) ss i (wider-end σ _ (recordOf σ s) g (rw (limit-first σ) at (wider _ (g .end-in-limit)))) (l .2) (omega arith)
+    limits-in-line σ (behind σ x) xs i (wider-end σ _ (recordOf x) g (rw (limit-first σ) at (wider _ (g .end-in-limit)))) (l .2) (omega arith)
 
-module _ (o : Opening) (t : Table) (opened : openStep o ≡ outcome Done t) (cs : List Call) where
+module _ (o : Opening) (t : Table) (opened : openStep o ≡ outcome (Accepted Zeros) t) (cs : List Call) where
   abbrev left : Table
   left = after t cs
 
-  pub track : (i : ℕ) → i < left .count → OnTrack (left .settings) (trainAt left i)
-  track i h =
-      let es = history t cs in
+  -- a place within the limit at place i is on the line
+  pub limit-on-line : (i : ℕ) → i ≤ left .count → (place : ℕ) → InLimit (limitAt left i) place → place ≤ left .settings .end
+  limit-on-line i h place limited =
       let σ = settingsOf o in
-      let T = told o t opened cs in
-      let count = told-count σ es left T in
-      rw (told-train σ es left T i h) (lined-track (left .settings) none (stays es) i (λ place limit. limit) (T .lined) (omega arith))
+      let xs = told (history t cs) in
+      let A = agrees o t opened cs in
+      let count = agrees-count σ xs left A in
+      let here = rw (agrees-limit σ xs left A i h) at limited in
+      rw (limit-first (left .settings)) at (limits-in-line (left .settings) _ xs i (λ place limit. limit) (A .lined) (omega arith) place here)
+
+  -- the train at place i is one that the history tells of
+  pub record Tells (i : ℕ) : Type 0 where
+    pub train : Told
+    pub here : trainAt left i ≡ recordOf train
+    pub steady : Steady (left .settings) (limitAt left i) train
+
+  pub tells : (i : ℕ) → i < left .count → Tells i
+  tells i h =
+      let σ = settingsOf o in
+      let xs = told (history t cs) in
+      let A = agrees o t opened cs in
+      let count = agrees-count σ xs left A in
+      let p = lined-at (left .settings) _ xs i (A .lined) (omega arith) in
+      record {
+        train = p .train;
+        here = agrees-train σ xs left A i h ∙ p .here;
+        steady = rw (agrees-limit σ xs left A i (omega arith)) (p .steady);
+      }
+
+  pub track : (i : ℕ) → i < left .count → OnTrack (left .settings) (limitAt left i) (trainAt left i)
+  track i h =
+      let p = tells i h in
+      let g : Guarded (left .settings) (limitAt left i) (trainAt left i) = rw (p .here) (p .steady .guarded) in
+      record { guarded = g; end = limit-on-line i (omega arith) _ (g .end-in-limit) }
 
   pub left-ranges : InRange (left .settings)
-  left-ranges = rw (told o t opened cs .settings) (ranges o (open-made o t opened .0))
+  left-ranges = rw (agrees o t opened cs .settings) (ranges o (open-made o t opened .0))
 
   pub always-computable : (i : ℕ) → i < left .count → computable (trainAt left i) ≡ true
-  always-computable i h = track-computable (left .settings) left-ranges (trainAt left i) (track i h)
+  always-computable i h = track-computable (left .settings) left-ranges _ (trainAt left i) (track i h)
 
   pub report-judged : (i : ℕ) → i < left .count → (r : Reading) → reportAllowed (left .settings) (trainAt left i) r ≡ allowed (trainAt left i) r
-  report-judged i h = track-report (left .settings) left-ranges (trainAt left i) (track i h)
+  report-judged i h = track-report (left .settings) left-ranges _ (trainAt left i) (track i h)
 
   pub call-back-judged : (i : ℕ) → i < left .count → (place : ℕ)
       → callBackAllowed (trainAt left i) place ≡ between (reachOf (trainAt left i)) (trainAt left i .authority .end) place
-  call-back-judged i h = track-call-back (left .settings) left-ranges (trainAt left i) (track i h)
+  call-back-judged i h = track-call-back (left .settings) left-ranges _ (trainAt left i) (track i h)

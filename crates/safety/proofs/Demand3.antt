@@ -1,79 +1,92 @@
 -- Demand 3: after every list of calls on the table that an accepted opening made, the claim holds and the table agrees with it.
 -- Assumes nothing.
-use Prim.Native.Nat.{ℕ, _-_, _≤_}
-use mathlib.Core.Option.{Option, none, some}
-use mathlib.Core.List.{List, [], _∷_, map}
-use mathlib.Core.Path.{_≡_, _∙_, ap, subst}
+use Prim.Native.Nat.{ℕ, zero, suc, _≤_}
+use mathlib.Core.Option.{Option, none, some, Option·map}
+use mathlib.Core.List.{List, [], _∷_}
+use mathlib.Core.Path.{_≡_, refl, subst}
 use native.Mathlib.Omega.{arith}
 use Rattle.motion.proofs.Slowing.{slowed-stands}
 use Rattle.calls.specs.declared.Opening.{Opening}
 use Rattle.train.specs.declared.Settings.{Settings}
 use Rattle.train.specs.Ranges.{settingsOf}
-use Rattle.train.proofs.Track.{limit-first, in-behind}
+use Rattle.train.specs.declared.Limit.{Limit}
+use Rattle.train.specs.Track.{limitBehind}
+use Rattle.train.proofs.Track.{InLimit, limit-first, in-behind}
 use Rattle.table.specs.declared.Table.{Table}
 use Rattle.calls.specs.declared.Call.{Call}
-use Rattle.calls.specs.declared.Answer.the-variants.{Done}
+use Rattle.calls.specs.declared.Answer.the-variants.{Accepted}
+use Rattle.calls.specs.declared.Values.the-variants.{Zeros}
 use Rattle.line.specs.Step.{outcome, openStep}
-use Rattle.safety.specs.History.{history, Stay, stays, headOf, rearOf, endOf, brakeOf, heldFor}
+use Rattle.safety.specs.History.{history, Told, told, rearOf}
 use Rattle.safety.specs.Claim.{heldReports, Stands, Alone, Separate, Clear, Safe, Claim, recordOf, Demand3}
 use Rattle.safety.proofs.Train.{guarded-head}
-use Rattle.safety.proofs.Holding.{Slowing}
-use Rattle.safety.proofs.Line.{Steady, Lined}
-use Rattle.safety.proofs.Told.{told-count}
-use Rattle.safety.proofs.Calls.{told}
+use Rattle.safety.proofs.Acts.{Slowing, Steady}
+use Rattle.safety.proofs.Line.{Lined, firstLimit, behind}
+use Rattle.safety.proofs.Tables.{agrees-count}
+use Rattle.safety.proofs.Calls.{agrees}
 
-module _ (o : Opening) (ahead : Option Stay) (s : Stay) (t : Steady (settingsOf o) ahead s) where
-  head-end : headOf s ≤ endOf s
+module _ (o : Opening) (limit : Limit) (x : Told) (t : Steady (settingsOf o) limit x) where
+  head-end : x .now .head ≤ x .now .authority .end
   unfolding recordOf
-  head-end = guarded-head (settingsOf o) _ (recordOf (settingsOf o) s) (t .guarded)
+  head-end = guarded-head (settingsOf o) limit (recordOf x) (t .guarded)
 
-  held-stands : (n : ℕ) → heldFor (s .deeds) ≡ some n → heldReports o s ≤ n → Stands o s
+  held-stands : (n : ℕ) → x .now .held ≡ some n → heldReports o x ≤ n → Stands x
   unfolding recordOf
-  held-stands n e enough =
-      let σ = settingsOf o in
-      let slowing = subst (Slowing σ (recordOf σ s)) e (t .slowing) in
-      slowed-stands (brakeOf σ s) (o .ceiling) (n - 1) (recordOf σ s .motion) (t .guarded .figures) (omega arith) (slowing (omega arith) .1)
+  held-stands zero e enough = absurd (omega arith)
+  held-stands (suc n) e enough =
+      let slowing = subst (Slowing (settingsOf o) (recordOf x)) e (t .slowing) in
+      slowed-stands (x .figures) (o .ceiling) n (recordOf x .motion) (t .guarded .figures) (omega arith) (slowing .1)
 
-  alone : Alone o s
+  alone : Alone o x
   unfolding recordOf
   alone = record { rear-on-line = t .guarded .rear-on-line; head-within-end = head-end; held-stands = held-stands }
 
-separate : (o : Opening) (ahead : Option Stay) (s : Stay) → Steady (settingsOf o) ahead s → Separate o ahead s
-unfolding recordOf rearOf
-separate o none s t = rw (limit-first (settingsOf o)) at (t .guarded .end-in-limit)
-separate o (some a) s t =
-    let σ = settingsOf o in
-    let sum = in-behind σ (recordOf σ a) (endOf s) (t .guarded .end-in-limit) in
-    omega arith
+  -- the first train, and one behind another
+  end-first : limit ≡ firstLimit (settingsOf o) → Separate o none x
+  unfolding recordOf
+  end-first e = rw (e, limit-first (settingsOf o)) at (t .guarded .end-in-limit)
 
-rear-head : (s : Stay) → rearOf s ≤ headOf s
+  end-behind : (a : Told) → limit ≡ behind (settingsOf o) a → Separate o (some a) x
+  unfolding recordOf rearOf
+  end-behind a e =
+      let limited : InLimit (behind (settingsOf o) a) (x .now .authority .end) = subst (λ (l : Limit). InLimit l (x .now .authority .end)) e (t .guarded .end-in-limit) in
+      let sum = in-behind (settingsOf o) (recordOf a) (x .now .authority .end) limited in
+      omega arith
+
+rear-head : (x : Told) → rearOf x ≤ x .now .head
 unfolding rearOf
-rear-head s = omega arith
+rear-head x = omega arith
 
 -- those behind a have their heads at or before the rear of p, if a has its rear there
-clear : (o : Opening) (p a : Stay) (ss : List Stay) → rearOf a ≤ rearOf p → Lined (settingsOf o) (some a) ss → Clear p ss
+clear : (o : Opening) (p a : Told) (xs : List Told) → rearOf a ≤ rearOf p → Lined (settingsOf o) (behind (settingsOf o) a) xs → Clear p xs
 clear o p a [] h l = tt
-clear o p a (s ∷ ss) h l =
-    let apart = separate o (some a) s (l .0) in
-    let head = head-end o (some a) s (l .0) in
-    let rear = rear-head s in
-    (omega arith, clear o p s ss (omega arith) (l .2))
+clear o p a (x ∷ xs) h l =
+    let apart = end-behind o _ x (l .0) a refl in
+    let head = head-end o _ x (l .0) in
+    let rear = rear-head x in
+    (omega arith, clear o p x xs (omega arith) (l .2))
 
-safe : (o : Opening) (ahead : Option Stay) (ss : List Stay) → Lined (settingsOf o) ahead ss → Safe o ahead ss
-safe o ahead [] l = tt
-safe o ahead (s ∷ ss) l =
-    (alone o ahead s (l .0), separate o ahead s (l .0), clear o s s ss (omega arith) (l .2), safe o (some s) ss (l .2))
+-- the limit is the one behind `ahead`
+safe : (o : Opening) (ahead : Option Told) (limit : Limit) (xs : List Told) → limit ≡ limitBehind (settingsOf o) (Option·map recordOf ahead)
+    → Lined (settingsOf o) limit xs → Safe o ahead xs
+safe o ahead limit [] e l = tt
+safe o ahead limit (x ∷ xs) e l =
+    (alone o limit x (l .0), separate ahead e, clear o x x xs (omega arith) (l .2), safe o (some x) _ xs refl (l .2))
+  where
+    separate : (ahead : Option Told) → limit ≡ limitBehind (settingsOf o) (Option·map recordOf ahead) → Separate o ahead x
+    separate none e = end-first o limit x (l .0) e
+    separate (some a) e = end-behind o limit x (l .0) a e
 
 -- for every accepted opening and every list of calls on the table that it made
-pub demand-3 : (o : Opening) (t : Table) → openStep o ≡ outcome Done t → (cs : List Call) → Demand3 o t cs
+pub demand-3 : (o : Opening) (t : Table) → openStep o ≡ outcome (Accepted Zeros) t → (cs : List Call) → Demand3 o t cs
 unfolding Claim
 demand-3 o t opened cs =
     let σ = settingsOf o in
-    let T = told o t opened cs in
-    let es = history t cs in
+    let A = agrees o t opened cs in
+    let xs = told (history t cs) in
     record {
-      claim = safe o none (stays es) (subst (λ (ρ : Settings). Lined ρ none (stays es)) (T .settings) (T .lined));
-      settings = T .settings;
-      count = told-count σ es _ T;
-      trains = T .trains ∙ ap (λ (ρ : Settings). map (recordOf ρ) (stays es)) (T .settings);
+      claim = safe o none (firstLimit σ) xs refl (subst (λ (ρ : Settings). Lined ρ (firstLimit ρ) xs) (A .settings) (A .lined));
+      settings = A .settings;
+      count = agrees-count σ xs _ A;
+      trains = A .trains;
     }

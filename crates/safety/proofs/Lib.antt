@@ -1,11 +1,8 @@
-pub mod Stays
-pub mod Deeds
-pub mod Records
 pub mod Train
-pub mod Holding
+pub mod Acts
 pub mod Finding
 pub mod Line
-pub mod Told
+pub mod Tables
 pub mod Calls
 pub mod Demand3
 pub mod Bounds

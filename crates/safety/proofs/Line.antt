@@ -1,66 +1,74 @@
--- The invariant of the stays on a line, and what accepted calls make of it: an act, an entering and a taking off.
+-- The invariant of the trains on a line, and what accepted calls make of it: an act, an entering and a taking off.
 -- Assumes nothing.
-use Prim.Native.Nat.{ℕ, zero, suc, _≤_}
-use mathlib.Core.Option.{Option, none, some, Option·map}
-use mathlib.Core.List.{List, [], _∷_, _++_, map, append-nil}
-use mathlib.Core.Path.{_≡_, refl, sym, _∙_, ap, subst}
+use Prim.Native.Nat.{ℕ, zero, suc, _≤_, _<_}
+use mathlib.Core.Option.{none, some}
+use mathlib.Core.List.{List, [], _∷_, _++_, map}
+use mathlib.Core.Path.{_≡_, refl, sym, ap, subst}
 use native.Mathlib.Omega.{arith}
 use lib.ListN.{length, getD, set, drop}
+use lib.Dec.{eqb}
 use borrow.Author.Tests.{eq-eqb, ne-eqb}
+use Rattle.logic.proofs.Tests.{by-test}
+use Rattle.calls.specs.declared.Act.{Act}
+use Rattle.calls.specs.declared.Answer.the-variants.{Accepted}
+use Rattle.calls.specs.declared.Numbers.{Numbers}
+use Rattle.calls.specs.Answers.{numbersOf}
+use Rattle.calls.specs.Checks.{firstOf}
 use Rattle.train.specs.declared.Settings.{Settings}
 use Rattle.train.specs.declared.Train.{Train}
-use Rattle.calls.specs.declared.Act.{Act}
-use Rattle.calls.specs.declared.Call.the-variants.{Own, TakeOff}
-use Rattle.calls.specs.declared.Answer.{Answer}
-use Rattle.calls.specs.declared.Answer.the-variants.{Done}
-use Rattle.table.specs.Table.{blankTrain}
-use Rattle.train.specs.Track.{stepsOf, limitBehind}
-use Rattle.train.specs.Acts.{acted}
-use Rattle.train.specs.Checks.{actChecks}
-use Rattle.calls.specs.Checks.{firstOf}
-use Rattle.line.specs.Step.{actAnswer}
-use Rattle.safety.specs.History.{Event, deedIn, takesOff, Stay, heldFor}
-use Rattle.safety.specs.Claim.{recordOf}
 use Rattle.train.specs.declared.Limit.{Limit}
+use Rattle.train.specs.Track.{stepsOf, limitBehind}
+use Rattle.train.specs.Decide.{decide}
 use Rattle.train.proofs.Track.{InLimit, limit-first, in-behind, behind-in}
-use Rattle.safety.proofs.Stays.{keptStay, keptStays, event, act-accepted, done-accepted, kept-accepted}
-use Rattle.safety.proofs.Deeds.{held-deed}
-use Rattle.safety.proofs.Records.{record-length, did, record-acted}
-use Rattle.safety.proofs.Train.{Guarded, guarded-head, guarded-acted, acted-head}
-use Rattle.safety.proofs.Holding.{Slowing, slowing-acted}
-use Rattle.safety.proofs.Finding.{Absent, IsAt, kept-absent, kept-others}
+use Rattle.table.specs.Table.{blankTrain}
+use Rattle.safety.specs.History.{Told, toldOwn, without}
+use Rattle.safety.specs.Claim.{recordOf}
+use Rattle.safety.proofs.Train.{Guarded, guarded-head}
+use Rattle.safety.proofs.Acts.{Steady, afterAct, act-kept}
+use Rattle.safety.proofs.Finding.{Absent, IsAt}
 
--- the limit behind the stay `ahead`
-abbrev pub limitOf : Settings → Option Stay → Limit
-limitOf σ ahead = limitBehind σ (Option·map (recordOf σ) ahead)
+-- the limits of the first train and of the one behind x
+abbrev pub firstLimit : Settings → Limit
+firstLimit σ = limitBehind σ none
 
--- one stay, behind the stay `ahead`
-pub record Steady (σ : Settings) (ahead : Option Stay) (s : Stay) : Type 0 where
-  pub guarded : Guarded σ (limitOf σ ahead) (recordOf σ s)
-  pub slowing : Slowing σ (recordOf σ s) (heldFor (s .deeds))
+abbrev pub behind : Settings → Told → Limit
+behind σ x = limitBehind σ (some (recordOf x))
 
--- all of them; no two have one id
-abbrev pub Lined : Settings → Option Stay → List Stay → Type 0
-Lined σ ahead [] = Unit {0}
-Lined σ ahead (s ∷ ss) = Steady σ ahead s × Absent (s .entry .id) ss × Lined σ (some s) ss
+-- all trains from one with this limit on; no two have one id
+abbrev pub Lined : Settings → Limit → List Told → Type 0
+Lined σ limit [] = Unit {0}
+Lined σ limit (x ∷ xs) = Steady σ limit x × Absent (x .entry .id) xs × Lined σ (behind σ x) xs
 
--- the stay ahead of place i
-abbrev pub aheadIn : Option Stay → List Stay → ℕ → Option Stay
-aheadIn ahead ss zero = ahead
-aheadIn ahead [] (suc i) = ahead
-aheadIn ahead (s ∷ ss) (suc i) = aheadIn (some s) ss i
+-- the limit at place i, where the first of them has this one
+abbrev pub limitIn : Settings → Limit → List Told → ℕ → Limit
+limitIn σ limit xs zero = limit
+limitIn σ limit [] (suc i) = limit
+limitIn σ limit (x ∷ xs) (suc i) = limitIn σ (behind σ x) xs i
 
--- ---- another train ahead
+-- the train at place i
+pub record Placed (σ : Settings) (limit : Limit) (xs : List Told) (i : ℕ) : Type 0 where
+  pub train : Told
+  pub here : getD (map recordOf xs) i blankTrain ≡ recordOf train
+  pub steady : Steady σ (limitIn σ limit xs i) train
+
+pub lined-at : (σ : Settings) (limit : Limit) (xs : List Told) (i : ℕ) → Lined σ limit xs → i < length xs → Placed σ limit xs i
+lined-at σ limit [] i l h = absurd (omega arith)
+lined-at σ limit (x ∷ xs) zero l h = record { train = x; here = refl; steady = l .0 }
+lined-at σ limit (x ∷ xs) (suc i) l h =
+    let p = lined-at σ (behind σ x) xs i (l .2) (omega arith) in
+    record { train = p .train; here = p .here; steady = p .steady }
+
+-- ---- another limit
 
 -- whatever is within the limit a is within the limit b
 abbrev pub Wider : Limit → Limit → Type 0
 Wider a b = (place : ℕ) → InLimit a place → InLimit b place
 
-lined-behind : (σ : Settings) (a b : Option Stay) → Wider (limitOf σ a) (limitOf σ b) → (ss : List Stay) → Lined σ a ss → Lined σ b ss
-lined-behind σ a b wider [] l = tt
-lined-behind σ a b wider (s ∷ ss) l =
+lined-wider : (σ : Settings) (a b : Limit) → Wider a b → (xs : List Told) → Lined σ a xs → Lined σ b xs
+lined-wider σ a b wider [] l = tt
+lined-wider σ a b wider (x ∷ xs) l =
     let g = l .0 .guarded in
-    let guarded : Guarded σ (limitOf σ b) (recordOf σ s) =
+    let guarded : Guarded σ b (recordOf x) =
     record {
       figures = g .figures;
       rear-on-line = g .rear-on-line;
@@ -70,14 +78,14 @@ lined-behind σ a b wider (s ∷ ss) l =
     } in
     (record { guarded = guarded; slowing = l .0 .slowing }, l .1, l .2)
 
--- b is a train that has not gone back
+-- behind a train that has not gone back
 wider-head : (σ : Settings) (x y : Train) → y .length ≡ x .length → x .motion .head ≤ y .motion .head
     → Wider (limitBehind σ (some x)) (limitBehind σ (some y))
 wider-head σ x y same h place limited = let steps = ap stepsOf same in let sum = in-behind σ x place limited in behind-in σ y place (omega arith)
 
--- b is the line end, and a is not beyond it
+-- the line end, where the train ahead was not beyond it
 pub wider-end : (σ : Settings) (limit : Limit) (x : Train) → Guarded σ limit x → x .authority .end ≤ σ .end
-    → Wider (limitBehind σ (some x)) (limitBehind σ none)
+    → Wider (limitBehind σ (some x)) (firstLimit σ)
 wider-end σ limit x g end place limited =
     let head = guarded-head σ limit x g in
     let sum = in-behind σ x place limited in
@@ -86,90 +94,74 @@ wider-end σ limit x g end place limited =
 -- ---- an act
 
 module _ (σ : Settings) (id : ℕ) (a : Act) where
-  -- accepted, of the train x
-  abbrev answerOf : Train → Answer
-  answerOf x = actAnswer a x (acted σ a x)
+  -- no train with another id acts
+  act-others : (n : Numbers) (xs : List Told) → Absent id xs → map (toldOwn id n a) xs ≡ xs
+  act-others n [] absent = refl
+  act-others n (x ∷ xs) absent = rw (ne-eqb (x .entry .id) id (absent .0), act-others n xs (absent .1))
 
-  abbrev actEvent : Train → Event
-  actEvent x = event (Own id a) (answerOf x)
+  -- no id changes
+  act-absent : (j : ℕ) (n : Numbers) (xs : List Told) → Absent j xs → Absent j (map (toldOwn id n a) xs)
+  act-absent j n [] absent = tt
+  act-absent j n (x ∷ xs) absent =
+      by-test (eqb (x .entry .id) id)
+      (λ e. rw e (absent .0, act-absent j n xs (absent .1)))
+      (λ e. rw e (absent .0, act-absent j n xs (absent .1)))
 
-  act-mine : (s : Stay) → s .entry .id ≡ id → keptStay (actEvent (recordOf σ s) ∷ []) s ≡ did σ a s ∷ []
-  unfolding takesOff deedIn
-  act-mine s e = kept-accepted (Own id a) (answerOf (recordOf σ s)) (act-accepted _ a (recordOf σ s) _) s ∙ rw (eq-eqb (s .entry .id) id e)
+  -- accepted, of the train x with this limit
+  abbrev Passes : Limit → Train → Type 0
+  Passes limit x = firstOf (decide σ limit x a .checks) ≡ none
 
-  act-other : (x : Train) (s : Stay) → (s .entry .id ≡ id → ⊥) → keptStay (actEvent x ∷ []) s ≡ s ∷ []
-  unfolding takesOff deedIn
-  act-other x s e = kept-accepted (Own id a) (answerOf x) (act-accepted _ a x _) s ∙ rw (ne-eqb (s .entry .id) id e, append-nil (s .deeds))
+  abbrev answerOf : Limit → Train → Numbers
+  answerOf limit x = numbersOf (Accepted (decide σ limit x a .gives))
 
-  -- the checks of the stay s behind `ahead`
-  abbrev Passes : Option Stay → Stay → Type 0
-  Passes ahead s = firstOf (actChecks σ (limitOf σ ahead) (recordOf σ s) a) ≡ none
+  -- the trains ys afterwards, the train x at place i having acted
+  abbrev Follows : Limit → List Told → ℕ → Limit → Train → List Told → Type 0
+  Follows limit xs i mine x ys = Lined σ limit ys × (map recordOf ys ≡ set (map recordOf xs) i (decide σ mine x a .after))
 
-  steady-act : (ahead : Option Stay) (s : Stay) → Steady σ ahead s → Passes ahead s → Steady σ ahead (did σ a s)
-  unfolding recordOf
-  steady-act ahead s t e =
-      let g = t .guarded in
-      record {
-        guarded = rw (record-acted σ s a) (guarded-acted σ _ (recordOf σ s) g a e);
-        slowing = rw (record-acted σ s a, held-deed σ s) (slowing-acted σ _ (recordOf σ s) g a (answerOf (recordOf σ s)) (heldFor (s .deeds)) e refl (t .slowing));
-      }
-
-  wider-act : (ahead : Option Stay) (s : Stay) → Passes ahead s → Wider (limitOf σ (some s)) (limitOf σ (some (did σ a s)))
-  wider-act ahead s e =
-      wider-head σ (recordOf σ s) (recordOf σ (did σ a s)) (record-length σ s _) (rw (record-acted σ s a) (acted-head σ _ (recordOf σ s) a e))
-
-  -- the stays ss′ afterwards, the train x at place i having acted
-  abbrev Acted : Option Stay → List Stay → ℕ → Train → List Stay → Type 0
-  Acted ahead ss i x ss′ = Lined σ ahead ss′ × (map (recordOf σ) ss′ ≡ set (map (recordOf σ) ss) i (acted σ a x))
-
-  pub lined-act : (ahead : Option Stay) (ss : List Stay) (i : ℕ) → Lined σ ahead ss → IsAt id ss i
-      → firstOf (actChecks σ (limitOf σ (aheadIn ahead ss i)) (getD (map (recordOf σ) ss) i blankTrain) a) ≡ none
-      → Acted ahead ss i (getD (map (recordOf σ) ss) i blankTrain) (keptStays (actEvent (getD (map (recordOf σ) ss) i blankTrain) ∷ []) ss)
-  unfolding keptStays
-  lined-act ahead [] i l place e = absurd place
-  lined-act ahead (s ∷ ss) zero l place e =
-      let alone : Absent id ss = subst (λ (j : ℕ). Absent j ss) place (l .1) in
-      let behind = lined-behind σ (some s) (some (did σ a s)) (wider-act ahead s e) ss (l .2) in
-      rw (act-mine s place, kept-others id (actEvent (recordOf σ s) ∷ []) (act-other (recordOf σ s)) ss alone)
-      ((steady-act ahead s (l .0) e, l .1, behind), ap (λ (x : Train). x ∷ map (recordOf σ) ss) (record-acted σ s a))
-  lined-act ahead (s ∷ ss) (suc i) l place e =
-      let x = getD (map (recordOf σ) ss) i blankTrain in
-      let (lined, same) = lined-act (some s) ss i (l .2) (place .1) e in
-      rw (act-other x s (place .0))
-      ((l .0, kept-absent (s .entry .id) (actEvent x ∷ []) ss (l .1), lined), ap (λ (xs : List Train). recordOf σ s ∷ xs) same)
+  pub lined-act : (limit : Limit) (xs : List Told) (i : ℕ) → Lined σ limit xs → IsAt id xs i
+      → let mine = limitIn σ limit xs i in
+      let x = getD (map recordOf xs) i blankTrain in
+      Passes mine x → Follows limit xs i mine x (map (toldOwn id (answerOf mine x) a) xs)
+  lined-act limit [] i l place e = absurd place
+  lined-act limit (x ∷ xs) zero l place e =
+      let n = answerOf limit (recordOf x) in
+      let kept = act-kept σ limit x (l .0) a e in
+      let alone : Absent id xs = subst (λ (j : ℕ). Absent j xs) place (l .1) in
+      let y = afterAct σ limit x (l .0) a in
+      let wider = wider-head σ (recordOf x) (recordOf y) (unfold recordOf in refl) (unfold recordOf in kept .onward) in
+      rw (eq-eqb (x .entry .id) id place, act-others n xs alone)
+      ((kept .keeps, l .1, lined-wider σ (behind σ x) (behind σ y) wider xs (l .2)), ap (λ (y : Train). y ∷ map recordOf xs) (kept .told))
+  lined-act limit (x ∷ xs) (suc i) l place e =
+      let (lined, same) = lined-act (behind σ x) xs i (l .2) (place .1) e in
+      rw (ne-eqb (x .entry .id) id (place .0))
+      ((l .0, act-absent (x .entry .id) _ xs (l .1), lined), ap (λ (ys : List Train). recordOf x ∷ ys) same)
 
 -- ---- an entering
 
-absent-last : (id : ℕ) (ss : List Stay) (s : Stay) → Absent id ss → (s .entry .id ≡ id → ⊥) → Absent id (ss ++ (s ∷ []))
-absent-last id [] s a e = (e, tt)
-absent-last id (u ∷ ss) s a e = (a .0, absent-last id ss s (a .1) e)
+absent-last : (id : ℕ) (xs : List Told) (x : Told) → Absent id xs → (x .entry .id ≡ id → ⊥) → Absent id (xs ++ (x ∷ []))
+absent-last id [] x a e = (e, tt)
+absent-last id (u ∷ xs) x a e = (a .0, absent-last id xs x (a .1) e)
 
-pub lined-enter : (σ : Settings) (ahead : Option Stay) (ss : List Stay) (s : Stay) → Lined σ ahead ss → Absent (s .entry .id) ss
-    → Steady σ (aheadIn ahead ss (length ss)) s → Lined σ ahead (ss ++ (s ∷ []))
-lined-enter σ ahead [] s l a t = (t, tt, tt)
-lined-enter σ ahead (u ∷ ss) s l a t =
-    (l .0, absent-last (u .entry .id) ss s (l .1) (λ q. a .0 (sym q)), lined-enter σ (some u) ss s (l .2) (a .1) t)
+pub lined-enter : (σ : Settings) (limit : Limit) (xs : List Told) (x : Told) → Lined σ limit xs → Absent (x .entry .id) xs
+    → Steady σ (limitIn σ limit xs (length xs)) x → Lined σ limit (xs ++ (x ∷ []))
+lined-enter σ limit [] x l a t = (t, tt, tt)
+lined-enter σ limit (u ∷ xs) x l a t =
+    (l .0, absent-last (u .entry .id) xs x (l .1) (λ q. a .0 (sym q)), lined-enter σ (behind σ u) xs x (l .2) (a .1) t)
 
 -- ---- a taking off
 
 module _ (σ : Settings) (id : ℕ) where
-  abbrev offEvent : Event
-  offEvent = event (TakeOff id) Done
+  off-others : (xs : List Told) → Absent id xs → without id xs ≡ xs
+  unfolding without
+  off-others [] absent = refl
+  off-others (x ∷ xs) absent = rw (ne-eqb (x .entry .id) id (absent .0), off-others xs (absent .1))
 
-  off-mine : (s : Stay) → s .entry .id ≡ id → keptStay (offEvent ∷ []) s ≡ []
-  unfolding takesOff
-  off-mine s e = kept-accepted (TakeOff id) Done (done-accepted _) s ∙ rw (eq-eqb (s .entry .id) id e)
-
-  off-other : (s : Stay) → (s .entry .id ≡ id → ⊥) → keptStay (offEvent ∷ []) s ≡ s ∷ []
-  unfolding takesOff deedIn
-  off-other s e = kept-accepted (TakeOff id) Done (done-accepted _) s ∙ rw (ne-eqb (s .entry .id) id e, append-nil (s .deeds))
-
-  pub lined-off : (ss : List Stay) → Lined σ none ss → IsAt id ss 0
-      → Lined σ none (keptStays (offEvent ∷ []) ss) × (map (recordOf σ) (keptStays (offEvent ∷ []) ss) ≡ drop 1 (map (recordOf σ) ss))
-  unfolding keptStays
+  pub lined-off : (xs : List Told) → Lined σ (firstLimit σ) xs → IsAt id xs 0
+      → Lined σ (firstLimit σ) (without id xs) × (map recordOf (without id xs) ≡ drop 1 (map recordOf xs))
+  unfolding without
   lined-off [] l place = absurd place
-  lined-off (s ∷ ss) l place =
-      let alone : Absent id ss = subst (λ (j : ℕ). Absent j ss) place (l .1) in
+  lined-off (x ∷ xs) l place =
+      let alone : Absent id xs = subst (λ (j : ℕ). Absent j xs) place (l .1) in
       let g = l .0 .guarded in
-      rw (off-mine s place, kept-others id (offEvent ∷ []) off-other ss alone)
-      (lined-behind σ (some s) none (wider-end σ _ (recordOf σ s) g (rw (limit-first σ) at (g .end-in-limit))) ss (l .2), refl)
+      rw (eq-eqb (x .entry .id) id place, off-others xs alone)
+      (lined-wider σ (behind σ x) (firstLimit σ) (wider-end σ _ (recordOf x) g (rw (limit-first σ) at (g .end-in-limit))) xs (l .2), refl)

@@ -11,12 +11,13 @@ use Rattle.calls.specs.Checks.{firstOf}
 use Rattle.train.specs.Ranges.{settingsInRange, requestInRange}
 use Rattle.train.specs.Track.{stepsOf, limitBehind}
 use Rattle.train.specs.Report.{allowed, orderAfter, reported, computable, reportAllowed}
-use Rattle.train.specs.Acts.{isRepeat, extended, isOld, callBackAllowed, acted, mayLeave}
-use Rattle.table.specs.Table.{placeIn, findOf, aheadOf}
-use Rattle.line.specs.Step.{openStep, enterStep, actStep, ownStep, takeOffStep, step}
-use Rattle.safety.specs.History.{history, isAccepted, deedIn, deedsIn, takesOff, hasLeft, stayFrom, stays, headOf, speedOf, rearOf, authorityOf, hasLift, reportsIn, heldFor}
+use Rattle.train.specs.Acts.{isRepeat, extended, isOld, callBackAllowed, mayLeave}
+use Rattle.table.specs.Table.{placeIn, placeOf, aheadOf}
+use Rattle.line.specs.Decide.{openDecision, enterDecision, actDecision, takeOffDecision, decideOn}
+use Rattle.line.specs.Step.{openStep, step}
+use Rattle.safety.specs.History.{history, isAccepted, toldAct, without, toldCall, toldBy, told, rearOf}
 use Rattle.safety.specs.Worked.{sessionLine, printedBy, sessionCalls, sessionAnswers, wordsAfter, secondCalls, secondWords}
 
 pub worked : (printedBy sessionLine sessionCalls ≡ sessionAnswers) × (wordsAfter sessionLine secondCalls ≡ secondWords)
-unfolding ceilDiv between carOf fullBrake applicationTime applicationCycles brakeCycles figuresWith figuresBy figuresOf brakeTravel brakeSpeed nextLevel driveTravel driveSpeed stands brakedCycle firstCycles enoughCycles brakedRun totalTravel stoppingDistance stoppingPlace capFits greatest orderFor inBounds firstOf settingsInRange requestInRange stepsOf limitBehind allowed orderAfter reported computable reportAllowed isRepeat extended isOld callBackAllowed acted mayLeave placeIn findOf aheadOf openStep enterStep actStep ownStep takeOffStep step history isAccepted deedIn deedsIn takesOff hasLeft stayFrom stays headOf speedOf rearOf authorityOf hasLift reportsIn heldFor
+unfolding ceilDiv between carOf fullBrake applicationTime applicationCycles brakeCycles figuresWith figuresBy figuresOf brakeTravel brakeSpeed nextLevel driveTravel driveSpeed stands brakedCycle firstCycles enoughCycles brakedRun totalTravel stoppingDistance stoppingPlace capFits greatest orderFor inBounds firstOf settingsInRange requestInRange stepsOf limitBehind allowed orderAfter reported computable reportAllowed isRepeat extended isOld callBackAllowed mayLeave placeIn placeOf aheadOf openDecision enterDecision actDecision takeOffDecision decideOn openStep step history isAccepted toldAct without toldCall toldBy told rearOf
 worked = (refl, refl)

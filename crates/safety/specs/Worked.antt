@@ -11,7 +11,7 @@ use Rattle.calls.specs.declared.Call.the-variants.{Enter, Own, TakeOff}
 use Rattle.calls.specs.declared.Numbers.{Numbers}
 use Rattle.calls.specs.Answers.{numbers, numbersOf}
 use Rattle.line.specs.Step.{openStep}
-use Rattle.safety.specs.History.{Event, history, Stay, stays, headOf, speedOf, rearOf, endOf, heldFor}
+use Rattle.safety.specs.History.{Event, history, Told, told, rearOf}
 
 abbrev pub enter : ℕ → ℕ → ℕ → ℕ → ℕ → Call
 enter id h l load s = Enter (record { id = id; head = h; length = l; load = load; start = s })
@@ -59,8 +59,8 @@ sessionAnswers =
 
 -- ---- the words of a second list
 
--- Train 7 leaves and enters again: nothing of its first stay counts. Train 9 is held, lifted and held: the reports count from the
--- hold after the lift. Its taking off (15) and its report beyond the worst case (9) are refused and count nowhere.
+-- Train 7 leaves and enters again: nothing of its first stay counts. Train 9 is held, lifted and held twice: the reports count from the
+-- first hold after the lift. Its taking off (15) and its report beyond the worst case (9) are refused and count nowhere.
 abbrev pub secondCalls : List Call
 secondCalls =
     enter 7 14295120000 2345 1 0
@@ -74,8 +74,8 @@ secondCalls =
     ∷ Own 9 (report 1000000000 0)
     ∷ Own 9 Lift
     ∷ Own 9 Hold
-    ∷ Own 9 Hold
     ∷ Own 9 (report 1000000000 0)
+    ∷ Own 9 Hold
     ∷ Own 9 (report 1000000001 0)
     ∷ Own 9 (extend 3 500)
     ∷ Own 9 (extend 3 500)
@@ -91,11 +91,20 @@ pub record Words : Type 0 where
   pub end : ℕ
   pub held : Option ℕ
 
-abbrev pub wordsOf : Stay → Words
-wordsOf s = record { id = s .entry .id; start = s .entry .start; head = headOf s; speed = speedOf s; rear = rearOf s; end = endOf s; held = heldFor (s .deeds) }
+abbrev pub wordsOf : Told → Words
+wordsOf x =
+    record {
+      id = x .entry .id;
+      start = x .now .authority .start;
+      head = x .now .head;
+      speed = x .now .speed;
+      rear = rearOf x;
+      end = x .now .authority .end;
+      held = x .now .held;
+    }
 
 abbrev pub wordsAfter : Opening → List Call → List Words
-wordsAfter o cs = map wordsOf (stays (history (openStep o .table) cs))
+wordsAfter o cs = map wordsOf (told (history (openStep o .table) cs))
 
 abbrev pub secondWords : List Words
 secondWords =

@@ -1,9 +1,9 @@
 -- Every answer of a session fits the columns of its output line, so that the line shows it whole. Assumes nothing.
-use Prim.Native.Nat.{ℕ, zero, suc, _+_, _≤_, _<_}
-use mathlib.Core.Path.{_≡_, refl, sym, subst}
-use mathlib.Core.Bool.{Bool, true, false, cond, not, _&&_}
+use Prim.Native.Nat.{ℕ, _≤_}
+use mathlib.Core.Path.{_≡_, sym, subst}
+use mathlib.Core.Bool.{Bool, true, false}
 use mathlib.Core.Logic.{_⊎_, inl, inr}
-use mathlib.Core.Option.{Option, none, some}
+use mathlib.Core.Option.{none, some}
 use mathlib.Core.List.{List, [], _∷_}
 use native.Mathlib.Nat.{le-refl, le-trans}
 use native.Mathlib.Omega.{arith}
@@ -11,55 +11,47 @@ use lib.Dec.{leb}
 use borrow.Author.Tests.{not-false}
 use Rattle.logic.proofs.Tests.{by-test, both}
 use Rattle.ranges.specs.Ranges.{greatestLineEnd, greatestTraction}
-use Rattle.brake.specs.declared.FiguresFound.{FiguresFound}
-use Rattle.brake.specs.declared.FiguresFound.the-variants.{Given, NoFigures}
+use Rattle.brake.specs.declared.Figures.{Figures}
+use Rattle.brake.specs.declared.FiguresFound.the-variants.{Given}
 use Rattle.brake.proofs.Consist.{given-sound}
 use Rattle.motion.specs.declared.Order.{Order}
 use Rattle.motion.specs.declared.Order.the-variants.{Drive, Brake}
 use Rattle.motion.specs.Orders.{orderCap}
 use Rattle.calls.specs.declared.Opening.{Opening}
 use Rattle.calls.specs.declared.Entry.{Entry}
-use Rattle.calls.specs.declared.Asked.{Asked}
 use Rattle.calls.specs.declared.Act.{Act}
-use Rattle.calls.specs.declared.Act.the-variants.{Report, Extend, CallBack, Hold, Lift}
 use Rattle.calls.specs.declared.Call.{Call}
-use Rattle.calls.specs.declared.Call.the-variants.{Enter, Own, TakeOff}
 use Rattle.calls.specs.declared.Request.the-variants.{Open, OnTable}
 use Rattle.calls.specs.declared.RequestRead.{RequestRead}
 use Rattle.calls.specs.declared.RequestRead.the-variants.{Read, Unreadable}
 use Rattle.calls.specs.declared.Refusal.{Refusal}
-use Rattle.calls.specs.declared.Refusal.the-variants.{BadSetting, BadEntry, NoTrain}
+use Rattle.calls.specs.declared.Refusal.the-variants.{BadSetting}
 use Rattle.calls.specs.declared.Answer.{Answer}
-use Rattle.calls.specs.declared.Answer.the-variants.{Ordered, Extended, Done, Refused}
+use Rattle.calls.specs.declared.Answer.the-variants.{Accepted, Refused}
+use Rattle.calls.specs.declared.Values.{Values}
+use Rattle.calls.specs.declared.Values.the-variants.{Entered, Ordered, Extended, Zeros}
 use Rattle.calls.specs.declared.Numbers.{Numbers}
 use Rattle.calls.specs.Answers.{numbersOf}
 use Rattle.calls.specs.Checks.{firstOf}
 use Rattle.calls.proofs.Answers.{refusal-range}
 use Rattle.calls.proofs.Checks.{passed}
 use Rattle.train.specs.Ranges.{settingsInRange}
-use Rattle.train.specs.Record.{figuresFor, authorised}
-use Rattle.train.specs.Track.{stepsOf, withinLimit}
-use Rattle.train.specs.Report.{reachOf, reported}
-use Rattle.train.specs.Acts.{isRepeat, granted, extended, acted}
-use Rattle.train.specs.Checks.{actChecks}
-use Rattle.train.proofs.Track.{limit-first, limit-tested, in-behind}
-use Rattle.train.proofs.Checks.{report-allowed}
+use Rattle.train.specs.Record.{figuresFor}
+use Rattle.train.specs.Track.{stepsOf}
+use Rattle.train.proofs.Track.{InLimit, limit-tested}
 use Rattle.table.specs.declared.Table.{Table}
-use Rattle.table.specs.declared.Found.{Found}
-use Rattle.table.specs.declared.Found.the-variants.{At, Nothing}
-use Rattle.table.specs.Table.{findOf, trainAt, aheadOf, limitAt}
+use Rattle.table.specs.Table.{placeOf, limitAt}
 use Rattle.table.proofs.Places.{found-below}
-use Rattle.line.specs.declared.Outcome.{Outcome}
-use Rattle.line.specs.Checks.{enterChecks, takeOffChecks}
-use Rattle.line.specs.Step.{outcome, judged, openStep, enterStep, actAnswer, actStep, ownStep, takeOffStep, step}
-use Rattle.line.proofs.Steps.{open-taken, open-refused}
+use Rattle.line.specs.Decide.{openDecision, enterChecks, rulingAt, decideOn}
+use Rattle.line.specs.Step.{outcome, openStep}
+use Rattle.line.proofs.Steps.{any-call, open-taken, open-refused}
 use Rattle.safety.specs.History as History
-use Rattle.safety.proofs.Train.{guarded-head, guarded-report}
-use Rattle.safety.proofs.Bounds.{track, left-ranges}
+use Rattle.safety.proofs.Acts.{Within, rulingOn, act-kept}
+use Rattle.safety.proofs.Bounds.{limit-on-line, tells, left-ranges}
 use Rattle.wire.specs.Format.{answerColumns, numbersIn, lineRead, answerText}
 use Rattle.wire.proofs.RoundTrip.{Fits, answer-read}
 use Rattle.stream.specs.declared.Session.{Session}
-use Rattle.stream.specs.Session.{session, closed, requestReply, replyTo, answered}
+use Rattle.stream.specs.Session.{session, closed, lineDecision, answered}
 use Rattle.stream.specs.Input.{after}
 use Rattle.stream.specs.Demand3.{callsIn, Opened}
 use Rattle.stream.proofs.Safe.{session-safe}
@@ -75,109 +67,74 @@ Shown a = Fits answerColumns (shownBy (numbersOf a))
 
 -- the answer to every line in the state s
 abbrev AllShown : Session → Type 0
-AllShown s = (r : RequestRead) → Fits answerColumns (shownBy (replyTo s r .answer))
+AllShown s = (r : RequestRead) → Shown (lineDecision s r .answer)
 
 refused-shown : (r : Refusal) → Shown (Refused r)
 refused-shown r = let range = refusal-range r in omega arith
 
-judged-shown : (t : Table) (r : Option Refusal) (o : Outcome) → (r ≡ none → Shown (o .answer)) → Shown (judged t r o .answer)
-judged-shown t none o accepted = accepted refl
-judged-shown t (some r) o accepted = refused-shown r
-
-ordered-shown : (o : Order) (r : ℕ) → orderCap o ≤ greatestTraction → r ≤ greatestLineEnd → Shown (Ordered o r)
+ordered-shown : (o : Order) (r : ℕ) → orderCap o ≤ greatestTraction → r ≤ greatestLineEnd → Shown (Accepted (Ordered o r))
 ordered-shown (Drive c) r h k = omega arith
 ordered-shown Brake r h k = omega arith
 
+extended-shown : (e : ℕ) (repeat : Bool) → e ≤ greatestLineEnd → Shown (Accepted (Extended e repeat))
+extended-shown e true h = omega arith
+extended-shown e false h = omega arith
+
 -- ---- a call on a table that calls left
 
-module _ (o : Opening) (t : Table) (opened : openStep o ≡ outcome Done t) (cs : List Call) where
+module _ (o : Opening) (t : Table) (opened : openStep o ≡ outcome (Accepted Zeros) t) (cs : List Call) where
   abbrev left : Table
   left = History.after t cs
 
-  end-fits : (i : ℕ) → i < left .count → trainAt left i .authority .end ≤ greatestLineEnd
-  end-fits i h = le-trans (track o t opened cs i h .end) (left-ranges o t opened cs .end)
-
   -- a place within the limit of the train at place i, or of one that enters there
-  limit-fits : (i : ℕ) → i ≤ left .count → (place : ℕ) → withinLimit (limitAt left i) place ≡ true → place ≤ greatestLineEnd
-  unfolding aheadOf
-  limit-fits zero h place e = le-trans (rw (limit-first (left .settings)) at (limit-tested (limitAt left 0) place e)) (left-ranges o t opened cs .end)
-  limit-fits (suc i) h place e =
-      let T = track o t opened cs i h in
-      let head = guarded-head _ (T .limit) (trainAt left i) (T .guarded) in
-      let end = end-fits i h in
-      let sum = in-behind (left .settings) (trainAt left i) place (limit-tested (limitAt left (suc i)) place e) in
+  limit-fits : (i : ℕ) → i ≤ left .count → (place : ℕ) → InLimit (limitAt left i) place → place ≤ greatestLineEnd
+  limit-fits i h place limited = le-trans (limit-on-line o t opened cs i h place limited) (left-ranges o t opened cs .end)
+
+  enter-shown : (e : Entry) (k : Figures) → figuresFor (left .settings) e ≡ Given k → firstOf (enterChecks left e) ≡ none
+      → Shown (Accepted (Entered (k .full) (k .growth) (e .head)))
+  enter-shown e k q p =
+      let room = passed _ _ _ (passed _ _ _ (passed _ _ _ p .1) .1) in
+      let place = both (leb (stepsOf (e .length)) (e .head)) _ (not-false _ (passed _ _ _ (room .1) .0)) in
+      let head = limit-fits (left .count) (le-refl _) (e .head) (limit-tested (limitAt left (left .count)) (e .head) (place .1)) in
+      let sound = given-sound (e .load) (e .length) k q in
       omega arith
 
-  enter-shown : (e : Entry) (f : FiguresFound) → figuresFor (left .settings) e ≡ f → Shown (enterStep left e f .answer)
-  unfolding enterStep
-  enter-shown e NoFigures q = refused-shown BadEntry
-  enter-shown e (Given k) q =
-      judged-shown left (firstOf (enterChecks left e)) _
-      (λ p.
-      let fresh = passed _ _ _ (passed _ _ _ p .1) in
-      let place = both (leb (stepsOf (e .length)) (e .head)) _ (not-false _ (passed _ _ _ (passed _ _ _ (fresh .1) .1) .0)) in
-      let head = limit-fits (left .count) (le-refl _) (e .head) (place .1) in
-      let sound = given-sound (e .load) (e .length) k q in
-      omega arith)
+  -- what an act gives is bounded by its settings and the end after it
+  within-shown : (end : ℕ) → end ≤ greatestLineEnd → (v : Values) → Within (left .settings) end v → Shown (Accepted v)
+  within-shown end h (Entered full growth e) w = absurd w
+  within-shown end h (Ordered o r) w = ordered-shown o r (le-trans (w .0) (left-ranges _ t opened cs .traction)) (le-trans (w .1) h)
+  within-shown end h (Extended e repeat) w = extended-shown e repeat (le-trans w h)
+  within-shown end h Zeros w = omega arith
 
-  -- b says whether it is a repeat
-  extend-shown : (i : ℕ) → i < left .count → (q : Asked) (b : Bool)
-      → not b && not (withinLimit (limitAt left i) (trainAt left i .authority .end + q .length)) ≡ false
-      → Shown (Extended (cond b (trainAt left i) (authorised (trainAt left i) (granted (trainAt left i .authority) q)) .authority .end) b)
-  extend-shown i h q true e = let end = end-fits i h in omega arith
-  extend-shown i h q false e = let end = limit-fits i (omega arith) _ (not-false _ e) in omega arith
+  act-shown : (id i : ℕ) (a : Act) → placeOf left id ≡ some i → firstOf (rulingAt left a i .checks) ≡ none → Shown (Accepted (rulingAt left a i .gives))
+  act-shown id i a q e =
+      let below = found-below left id i q in
+      let p = tells o t opened cs i below in
+      let kept = act-kept (left .settings) (limitAt left i) (p .train) (p .steady) a (rw (p .here) at e) in
+      let end = limit-fits i (omega arith) _ (rw (kept .told) at (kept .keeps .guarded .end-in-limit)) in
+      rw (p .here) (within-shown _ end (rulingOn (left .settings) (limitAt left i) (p .train) (p .steady) a .gives) (kept .within))
 
-  act-shown : (i : ℕ) → i < left .count → (a : Act) → firstOf (actChecks (left .settings) (limitAt left i) (trainAt left i) a) ≡ none
-      → Shown (actAnswer a (trainAt left i) (acted (left .settings) a (trainAt left i)))
-  unfolding acted extended reported
-  act-shown i h (Report r) e =
-      let x = trainAt left i in
-      let T = track o t opened cs i h in
-      let g = guarded-report _ (T .limit) x (T .guarded) r (report-allowed _ x r (passed _ _ _ e .0)) in
-      let end = end-fits i h in
-      let most = left-ranges o t opened cs .traction in
-      let y = reported (left .settings) x r in
-      ordered-shown (y .order) (reachOf y) (omega arith) (omega arith)
-  act-shown i h (Extend q) e =
-      let after-old = passed _ _ _ (passed _ _ _ e .1) in
-      extend-shown i h q (isRepeat (trainAt left i .authority) q) (passed _ _ _ (passed _ _ _ (after-old .1) .1) .0)
-  act-shown i h (CallBack p) e = omega arith
-  act-shown i h Hold e = omega arith
-  act-shown i h Lift e = omega arith
-
-  own-shown : (id : ℕ) (a : Act) (f : Found) → findOf left id ≡ f → Shown (ownStep left a f .answer)
-  unfolding ownStep actStep
-  own-shown id a Nothing q = refused-shown NoTrain
-  own-shown id a (At i) q =
-      judged-shown left (firstOf (actChecks (left .settings) (limitAt left i) (trainAt left i) a)) _ (act-shown i (found-below left id i q) a)
-
-  take-off-shown : (f : Found) → Shown (takeOffStep left f .answer)
-  unfolding takeOffStep
-  take-off-shown Nothing = refused-shown NoTrain
-  take-off-shown (At i) = judged-shown left (firstOf (takeOffChecks i (trainAt left i))) _ (λ e. omega arith)
-
-  call-shown : (c : Call) → Shown (step left c .answer)
-  unfolding step
-  call-shown (Enter e) = enter-shown e (figuresFor (left .settings) e) refl
-  call-shown (Own id a) = own-shown id a (findOf left id) refl
-  call-shown (TakeOff id) = take-off-shown (findOf left id)
+  call-shown : (c : Call) → Shown (decideOn left (OnTable c) .answer)
+  call-shown =
+      any-call left (λ c d. Shown (d .answer))
+      (record { refuses = λ c r. refused-shown r; enters = enter-shown; acts = act-shown; leaves = λ id i q may. omega arith })
 
   opened-shown : AllShown (session true left)
-  unfolding requestReply
+  unfolding lineDecision
   opened-shown (Read (Open u)) = omega arith
   opened-shown (Read (OnTable c)) = call-shown c
   opened-shown Unreadable = omega arith
 
 -- ---- a line
 
-opening-shown : (o : Opening) → Shown (openStep o .answer)
+opening-shown : (o : Opening) → Shown (openDecision o .answer)
 opening-shown o =
     by-test (settingsInRange o)
     (λ ok. rw (open-taken o ok) (omega arith))
     (λ bad. rw (open-refused o bad) (refused-shown BadSetting))
 
 closed-shown : AllShown closed
-unfolding requestReply
+unfolding lineDecision decideOn
 closed-shown (Read (Open o)) = opening-shown o
 closed-shown (Read (OnTable c)) = omega arith
 closed-shown Unreadable = omega arith

@@ -2,7 +2,7 @@
 use Prim.Native.Nat.{ℕ, zero, suc, _+_, _≤_, _<_}
 use native.Mathlib.Omega.{arith}
 use mathlib.Core.Path.{_≡_, refl, sym, ap, _∙_}
-use mathlib.Core.Bool.{Bool, true, false}
+use mathlib.Core.Bool.{Bool, true, false, cond}
 use mathlib.Core.List.{List, [], _∷_, _++_, append-assoc, append-nil}
 use lib.Dec.{eqb, leb}
 use lib.ListN.{length, take, drop, getD, length-take, take-append-drop}
@@ -11,12 +11,20 @@ use native.Mathlib.Numerals.{add-one}
 use borrow.Author.Tests.{eq-eqb, ne-eqb, eqb-true, eqb-false, leb-true, leb-false}
 use Rattle.logic.proofs.Tests.{by-test}
 use Rattle.wire.specs.Format.{callWidth, lineRead}
+use Rattle.calls.specs.declared.Request.{Request}
+use Rattle.calls.specs.declared.Request.the-variants.{Open, OnTable}
 use Rattle.calls.specs.declared.RequestRead.{RequestRead}
+use Rattle.calls.specs.declared.RequestRead.the-variants.{Read, Unreadable}
+use Rattle.calls.specs.Answers.{numbersOf}
+use Rattle.table.specs.declared.Table.{Table}
+use Rattle.table.specs.Table.{places, Fits}
+use Rattle.line.specs.declared.Decision.{Decision}
+use Rattle.line.specs.Decide.{decideOn}
+use Rattle.line.proofs.Steps.{decided-fits, open-fits}
 use Rattle.stream.specs.declared.Session.{Session}
-use Rattle.stream.specs.declared.Reply.{Reply}
 use Rattle.stream.specs.declared.Stream.{Stream}
 use Rattle.stream.specs.declared.Fed.{Fed}
-use Rattle.stream.specs.Session.{replyTo, answered}
+use Rattle.stream.specs.Session.{outOfTurn, lineDecision, replied, answered}
 use Rattle.stream.specs.Input.{lines, rest, after, outputLine, answers, begun, keptWidth, kept, Taken, TakenOrLeft, FeedPromise}
 use Rattle.stream.proofs.Bytes.{over-within}
 
@@ -28,6 +36,23 @@ pub record Standing : Type 0 where
 
 abbrev pub standing : Session → List ℕ → List ℕ → List ℕ → Standing
 standing s g w bs = record { session = after s (lines g bs); begins = kept (rest g bs); written = w ++ answers s (lines g bs) }
+
+-- ---- what is decided of a line
+
+either-way : (P : Decision → Type 0) (b : Bool) (x y : Decision) → P x → P y → P (cond b x y)
+either-way P true x y p q = p
+either-way P false x y p q = q
+
+request-fits : (t : Table) → length (t .trains) ≡ places → (r : Request) → Fits t (decideOn t r .change)
+unfolding decideOn
+request-fits t size (Open o) = open-fits t o
+request-fits t size (OnTable c) = decided-fits t size c
+
+-- the table has the place that the change needs
+pub line-fits : (s : Session) → length (s .table .trains) ≡ places → (r : RequestRead) (d : Decision) → d ≡ lineDecision s r → Fits (s .table) (d .change)
+unfolding lineDecision
+line-fits s size (Read r) d e = rw e (either-way (λ q. Fits (s .table) (q .change)) (outOfTurn (s .opened) r) _ _ tt (request-fits (s .table) size r))
+line-fits s size Unreadable d e = rw e tt
 
 -- ---- of a line that is too long the kept bytes are enough
 
@@ -71,7 +96,7 @@ standing-kept s g w (b ∷ bs) =
     (λ e.
     let h : b ≡ 10 = eqb-true b 10 e in
     standing-line s (kept g) w b bs h
-    ∙ ap (λ (r : RequestRead). standing (replyTo s r .session) [] (w ++ outputLine (replyTo s r .answer)) bs) (read-kept g)
+    ∙ ap (λ (r : RequestRead). let q = replied s (lineDecision s r) in standing (q .session) [] (w ++ outputLine (q .answer)) bs) (read-kept g)
     ∙ sym (standing-line s g w b bs h))
     (λ e.
     let h : (b ≡ 10 → ⊥) = eqb-false b 10 e in
@@ -105,12 +130,12 @@ module _ (s : Session) (g w piece : List ℕ) (i : ℕ) (more : i < length piece
       ∙ ap (λ (l : List ℕ). standing s l w (drop (i + 1) piece)) (sym e)
 
   -- the line feed at place i: the line is answered
-  pub line-taken : (r : Reply) (v : List ℕ) → getD piece i 0 ≡ 10 → r ≡ answered s g → v ≡ w ++ outputLine (r .answer)
-      → standing s g w (drop i piece) ≡ standing (r .session) [] v (drop (i + 1) piece)
-  line-taken r v n e f =
+  pub line-taken : (d : Decision) (v : List ℕ) → getD piece i 0 ≡ 10 → d ≡ lineDecision s (lineRead g) → v ≡ w ++ outputLine (numbersOf (d .answer))
+      → standing s g w (drop i piece) ≡ standing (replied s d .session) [] v (drop (i + 1) piece)
+  line-taken d v n e f =
       next ∙ standing-line s g w (getD piece i 0) (drop (i + 1) piece) n
-      ∙ ap (λ (q : Reply). standing (q .session) [] (w ++ outputLine (q .answer)) (drop (i + 1) piece)) (sym e)
-      ∙ ap (λ (l : List ℕ). standing (r .session) [] l (drop (i + 1) piece)) (sym f)
+      ∙ ap (λ (q : Decision). standing (replied s q .session) [] (w ++ outputLine (numbersOf (q .answer))) (drop (i + 1) piece)) (sym e)
+      ∙ ap (λ (l : List ℕ). standing (replied s d .session) [] l (drop (i + 1) piece)) (sym f)
 
 -- the whole piece is taken: out holds the first `at` bytes as written and the others as before
 module _ (x : Stream) (piece before out bytes : List ℕ) (s : Session) (count at : ℕ) where

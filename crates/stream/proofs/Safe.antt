@@ -13,18 +13,24 @@ use Rattle.calls.specs.declared.RequestRead.the-variants.{Read, Unreadable}
 use Rattle.train.specs.Ranges.{settingsInRange, settingsOf}
 use Rattle.table.specs.declared.Table.{Table}
 use Rattle.table.specs.Table.{emptyTable}
-use Rattle.line.specs.declared.Outcome.{Outcome}
-use Rattle.line.specs.Step.{openStep, step}
+use Rattle.line.specs.declared.Decision.{Decision}
+use Rattle.line.specs.Decide.{openDecision, decideOn}
+use Rattle.line.specs.Step.{carriedOut, noTable, openStep, step}
 use Rattle.line.proofs.Steps.{open-taken, open-refused}
 use Rattle.safety.specs.History.{Event, history}
 use Rattle.safety.specs.History as History
-use Rattle.safety.proofs.Stays.{event}
+use Rattle.safety.proofs.Calls.{event}
 use Rattle.safety.proofs.Demand3.{demand-3}
 use Rattle.wire.specs.Format.{lineRead}
 use Rattle.stream.specs.declared.Session.{Session}
-use Rattle.stream.specs.Session.{session, closed, openReply, requestReply, replyTo, answered}
+use Rattle.stream.specs.declared.Reply.{Reply}
+use Rattle.stream.specs.Session.{session, closed, lineDecision, replied, answered}
 use Rattle.stream.specs.Input.{after}
 use Rattle.stream.specs.Demand3.{callRead, callsIn, eventsIn, Opened}
+
+-- the reply to what was read
+abbrev pub repliedTo : Session → RequestRead → Reply
+repliedTo s r = replied s (lineDecision s r)
 
 -- ---- since the opening
 
@@ -33,13 +39,13 @@ abbrev Follows : Table → List (List ℕ) → Type 0
 Follows t ls = (after (session true t) ls ≡ session true (History.after t (callsIn ls))) × (eventsIn (session true t) ls ≡ history t (callsIn ls))
 
 follows : (t : Table) (ls : List (List ℕ)) → Follows t ls
-unfolding after requestReply callsIn eventsIn History.after history
+unfolding after lineDecision callsIn eventsIn History.after history step
 follows t [] = (refl, refl)
 follows t (l ∷ ls) = go (lineRead l) (λ u. follows u ls)
   where
     go : (r : RequestRead) → ((u : Table) → Follows u ls)
-        → (after (replyTo (session true t) r .session) ls ≡ session true (History.after t (callRead r ++ callsIn ls)))
-        × (map (λ (c : Call). record { call = c; answer = replyTo (session true t) r .answer }) (callRead r) ++ eventsIn (replyTo (session true t) r .session) ls ≡ history t (callRead r ++ callsIn ls))
+        → (after (repliedTo (session true t) r .session) ls ≡ session true (History.after t (callRead r ++ callsIn ls)))
+        × (map (λ (c : Call). record { call = c; answer = repliedTo (session true t) r .answer }) (callRead r) ++ eventsIn (repliedTo (session true t) r .session) ls ≡ history t (callRead r ++ callsIn ls))
     go (Read (Open o)) next = next t
     go (Read (OnTable c)) next = let f = next (step t c .table) in (f .0, ap (λ (es : List Event). event c (step t c .answer) ∷ es) (f .1))
     go Unreadable next = next t
@@ -50,8 +56,8 @@ abbrev Safe : List (List ℕ) → Type 0
 Safe ls = (after closed ls ≡ closed) ⊎ Opened ls
 
 module _ (l : List ℕ) (ls : List (List ℕ)) where
-  leaves : (r : RequestRead) → lineRead l ≡ r → answered closed l .session ≡ replyTo closed r .session
-  leaves r e = ap (λ (q : RequestRead). replyTo closed q .session) e
+  leaves : (r : RequestRead) → lineRead l ≡ r → answered closed l .session ≡ repliedTo closed r .session
+  leaves r e = ap (λ (q : RequestRead). repliedTo closed q .session) e
 
   -- a line that opens nothing alters nothing
   safe-skip : answered closed l .session ≡ closed → Safe ls → Safe (l ∷ ls)
@@ -75,16 +81,16 @@ module _ (l : List ℕ) (ls : List (List ℕ)) where
       })
 
   module _ (o : Opening) (read : lineRead l ≡ Read (Open o)) where
-    opening-leaves : (u : Outcome) → openStep o ≡ u → answered closed l .session ≡ openReply closed u .session
-    unfolding requestReply
-    opening-leaves u e = leaves (Read (Open o)) read ∙ ap (λ (v : Outcome). openReply closed v .session) e
+    opening-leaves : (d : Decision) → openDecision o ≡ d → answered closed l .session ≡ replied closed d .session
+    unfolding lineDecision decideOn
+    opening-leaves d e = leaves (Read (Open o)) read ∙ ap (λ (v : Decision). replied closed v .session) e
 
     safe-opened : settingsInRange o ≡ true → Opened (l ∷ ls)
-    unfolding after
+    unfolding after openStep
     safe-opened ok =
         let t = emptyTable (settingsOf o) in
-        let taken = open-taken o ok in
-        let opens = opening-leaves _ taken in
+        let opens = opening-leaves _ (open-taken o ok) in
+        let accepted = ap (carriedOut noTable) (open-taken o ok) in
         let f = follows t ls in
         record {
           earlier = [];
@@ -95,11 +101,11 @@ module _ (l : List ℕ) (ls : List (List ℕ)) where
           all = refl;
           not-yet = refl;
           opening = read;
-          accepted = taken;
+          accepted = accepted;
           opens = opens;
           now = ap (λ (s : Session). after s ls) opens ∙ f .0;
           events = f .1;
-          demand = demand-3 o t taken (callsIn ls);
+          demand = demand-3 o t accepted (callsIn ls);
         }
 
     safe-opening : Safe ls → Safe (l ∷ ls)
@@ -109,7 +115,7 @@ module _ (l : List ℕ) (ls : List (List ℕ)) where
         (λ bad. safe-skip (opening-leaves _ (open-refused o bad)) next)
 
   safe-line : (r : RequestRead) → lineRead l ≡ r → Safe ls → Safe (l ∷ ls)
-  unfolding requestReply
+  unfolding lineDecision
   safe-line (Read (Open o)) e = safe-opening o e
   safe-line (Read (OnTable c)) e = safe-skip (leaves (Read (OnTable c)) e)
   safe-line Unreadable e = safe-skip (leaves Unreadable e)

@@ -9,7 +9,8 @@ use Rattle.calls.specs.declared.Call.{Call}
 use Rattle.calls.specs.declared.Request.the-variants.{Open, OnTable}
 use Rattle.calls.specs.declared.RequestRead.{RequestRead}
 use Rattle.calls.specs.declared.RequestRead.the-variants.{Read, Unreadable}
-use Rattle.calls.specs.declared.Answer.the-variants.{Done}
+use Rattle.calls.specs.declared.Answer.the-variants.{Accepted}
+use Rattle.calls.specs.declared.Values.the-variants.{Zeros}
 use Rattle.table.specs.declared.Table.{Table}
 use Rattle.line.specs.Step.{outcome, openStep}
 use Rattle.safety.specs.History.{Event, history}
@@ -47,7 +48,7 @@ pub record Opened (ls : List (List ℕ)) : Type 0 where
   pub all : ls ≡ earlier ++ (line ∷ since)
   pub not-yet : after closed earlier ≡ closed
   pub opening : lineRead line ≡ Read (Open given)
-  pub accepted : openStep given ≡ outcome Done table
+  pub accepted : openStep given ≡ outcome (Accepted Zeros) table
   pub opens : answered closed line .session ≡ session true table
   pub now : after closed ls ≡ session true (History.after table (callsIn since))
   pub events : eventsIn (session true table) since ≡ history table (callsIn since)

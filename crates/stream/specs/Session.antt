@@ -1,17 +1,19 @@
 -- Document 01, "What is turned down" and "The session program": one line of a session, its answer and the state after it.
+use mathlib.Core.Bool.{Bool, false, cond, not, _||_}
 use Prim.Native.Nat.{ℕ}
-use mathlib.Core.Bool.{Bool, true, false, cond}
 use mathlib.Core.List.{List}
 use lib.Dec.{eqb}
 use Rattle.calls.specs.declared.Request.{Request}
 use Rattle.calls.specs.declared.Request.the-variants.{Open, OnTable}
 use Rattle.calls.specs.declared.RequestRead.{RequestRead}
 use Rattle.calls.specs.declared.RequestRead.the-variants.{Read, Unreadable}
-use Rattle.calls.specs.declared.Numbers.{Numbers}
-use Rattle.calls.specs.Answers.{numbers, numbersOf}
+use Rattle.calls.specs.declared.Refusal.the-variants.{BadLine, OutOfTurn}
+use Rattle.calls.specs.Answers.{numbersOf}
 use Rattle.table.specs.declared.Table.{Table}
-use Rattle.line.specs.declared.Outcome.{Outcome}
-use Rattle.line.specs.Step.{noTable, openStep, step}
+use Rattle.table.specs.Table.{changed}
+use Rattle.line.specs.declared.Decision.{Decision}
+use Rattle.line.specs.Decide.{refused, decideOn}
+use Rattle.line.specs.Step.{noTable}
 use Rattle.wire.specs.Format.{lineRead}
 use Rattle.stream.specs.declared.Session.{Session}
 use Rattle.stream.specs.declared.Reply.{Reply}
@@ -23,31 +25,24 @@ session o t = record { opened = o; table = t }
 abbrev pub closed : Session
 closed = session false noTable
 
-abbrev pub reply : Numbers → Session → Reply
-reply a s = record { answer = a; session = s }
+-- 2 call before an accepted opening, or an opening after one
+abbrev pub outOfTurn : Bool → Request → Bool
+outOfTurn opened (Open o) = opened
+outOfTurn opened (OnTable c) = not opened
 
--- a refusal gives its number and zeros; nothing is altered
-abbrev pub turnedDown : ℕ → Session → Reply
-turnedDown n s = reply (numbers n 0 0 0) s
+-- what is decided of a line: 1 line unreadable, 2, then the request's own answer
+unfoldable pub lineDecision : Session → RequestRead → Decision
+lineDecision s (Read r) = cond (outOfTurn (s .opened) r) (refused OutOfTurn) (decideOn (s .table) r)
+lineDecision s Unreadable = refused BadLine
 
--- answer 0 is acceptance: then the table of the opening is the session's
-abbrev pub openReply : Session → Outcome → Reply
-openReply s o = reply (numbersOf (o .answer)) (cond (eqb (numbersOf (o .answer) .number) 0) (session true (o .table)) s)
-
--- a call on the table: what `step` gives
-abbrev pub callReply : Outcome → Reply
-callReply o = reply (numbersOf (o .answer)) (session true (o .table))
-
--- 2 call before an accepted opening, or an opening after one; then the call's own answer
-unfoldable pub requestReply : Session → Request → Reply
-requestReply s (Open o) = cond (s .opened) (turnedDown 2 s) (openReply s (openStep o))
-requestReply s (OnTable c) = cond (s .opened) (callReply (step (s .table) c)) (turnedDown 2 s)
-
--- 1 line unreadable
-abbrev pub replyTo : Session → RequestRead → Reply
-replyTo s (Read r) = requestReply s r
-replyTo s Unreadable = turnedDown 1 s
+-- Answer 0 is acceptance: from then on the session is open. A refusal changes nothing.
+abbrev pub replied : Session → Decision → Reply
+replied s d =
+    record {
+      answer = numbersOf (d .answer);
+      session = session (s .opened || eqb (numbersOf (d .answer) .number) 0) (changed (s .table) (d .change));
+    }
 
 -- the answer to a line without its line feed
 abbrev pub answered : Session → List ℕ → Reply
-answered s line = replyTo s (lineRead line)
+answered s line = replied s (lineDecision s (lineRead line))

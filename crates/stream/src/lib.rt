@@ -5,14 +5,16 @@ ghost use mathlib.Core.List.{[], _∷_, _++_};
 ghost use Prim.Native.Nat.{_+_, _*_, _≤_};
 ghost use lib.ListN.{length, take};
 ghost use lib.Seq.{paste};
-ghost use Rattle.calls.specs.Answers.{numbers};
-ghost use Rattle.stream.specs.Session.{closed, turnedDown, requestReply, answered};
+ghost use Rattle.wire.specs.Format.{lineRead};
+ghost use Rattle.stream.specs.Session.{session, closed, outOfTurn, lineDecision, answered};
 ghost use Rattle.stream.specs.Input.{outputLine, begun, keptWidth, kept, outputWidth, over, lastWritten, Taken, FeedPromise};
-use calls::Call;
+use calls::Answer;
 use calls::Numbers;
-use calls::Opening;
+use calls::Refusal;
 use calls::Request;
 use calls::RequestRead;
+use line::Decision;
+use table::Change;
 use table::Table;
 
 // The bytes that are kept of a line. One more than a call has: enough to tell that the line is too long.
@@ -49,90 +51,53 @@ pub struct Fed {
 
 // ---- one line
 
-// The program's own refusals, 1 and 2: the number and zeros.
-fn refusal(n: u64) -> Numbers
-    ensures { λ r. ⌜ r ≡ numbers n 0 0 0 ⌝ }
-{
-    Numbers {
-        number: n,
-        first: 0,
-        second: 0,
-        third: 0,
-    }
-}
-
-// A refusal alters nothing.
-fn turn_down(s: Session, n: u64) -> Reply
-    ensures { λ r. ⌜ r ≡ turnedDown n s ⌝ }
-{
-    Reply {
-        answer: refusal(n),
-        session: s,
-    }
-}
-
-// An opening: 2 after an accepted one.
-fn answer_opening(s: Session, given: Opening) -> Reply
-    ensures { λ r. ⌜ r ≡ requestReply s (Request.Open given) ⌝ }
-{
-    if s.opened {
-        return turn_down(s, 2);
-    }
-    let o = line::open(given);
-    let a = o.answer;
-    let table = o.table;
-    let n = calls::numbers_of(a);
-    if n.number != 0 {
-        return Reply {
-            answer: n,
-            session: s,
-        };
-    }
-    Reply {
-        answer: n,
-        session: Session {
-            opened: true,
-            table,
-        },
-    }
-}
-
-// A call on the table: 2 before an accepted opening.
-fn answer_call(s: Session, call: Call) -> Reply
-    ensures { λ r. ⌜ r ≡ requestReply s (Request.OnTable call) ⌝ }
-{
-    if !s.opened {
-        return turn_down(s, 2);
-    }
-    let o = line::apply(s.table, call);
-    let a = o.answer;
-    let table = o.table;
-    Reply {
-        answer: calls::numbers_of(a),
-        session: Session {
-            opened: true,
-            table,
-        },
-    }
-}
-
-fn answer_request(s: Session, r: Request) -> Reply
-    ensures { λ o. ⌜ o ≡ requestReply s r ⌝ }
+// Whether a request comes out of turn: a call before an accepted opening, or an opening after one.
+fn out_of_turn(opened: bool, r: Request) -> bool
+    ensures { λ o. ⌜ o ≡ outOfTurn opened r ⌝ }
 {
     match r {
-        Request::Open(given) => answer_opening(s, given),
-        Request::OnTable(call) => answer_call(s, call),
+        Request::Open(_) => opened,
+        Request::OnTable(_) => !opened,
     }
 }
 
-// Answers a line, given without its line feed.
-pub fn answer(s: Session, line: &[u8]) -> Reply
-    ensures { λ r. ⌜ r ≡ answered s (now (line .entry)) ⌝ }
+// What is decided of a request, on a table that is not given back.
+fn decide_request(opened: bool, t: Table, r: Request) -> Decision
+    ensures { λ d. ⌜ d ≡ lineDecision (session opened t) (RequestRead.Read r) ⌝ }
+{
+    if out_of_turn(opened, r) {
+        return line::refuse(Refusal::OutOfTurn);
+    }
+    line::decide(t, r)
+}
+
+// What is decided of a line, given without its line feed.
+fn decide_line(opened: bool, t: Table, line: &[u8]) -> Decision
+    ensures { λ d. ⌜ d ≡ lineDecision (session opened t) (lineRead (now (line .entry))) ⌝ }
 {
     let read = wire::read_line(line);
     match read {
-        RequestRead::Read(r) => answer_request(s, r),
-        RequestRead::Unreadable => turn_down(s, 1),
+        RequestRead::Read(r) => decide_request(opened, t, r),
+        RequestRead::Unreadable => line::refuse(Refusal::BadLine),
+    }
+}
+
+// Answers a line, given without its line feed. Answer 0 is acceptance: from then on the session is open.
+pub fn answer(s: Session, line: &[u8]) -> Reply
+    ensures { λ r. ⌜ r ≡ answered s (now (line .entry)) ⌝ }
+{
+    let opened = s.opened;
+    let table = s.table;
+    let d = decide_line(opened, table, line);
+    let a = d.answer;
+    let c = d.change;
+    let n = calls::numbers_of(a);
+    Reply {
+        answer: n,
+        session: Session {
+            opened: logic::either(opened, n.number == 0),
+            table: table::carry_out(table, c),
+        },
     }
 }
 
@@ -164,14 +129,14 @@ fn push(bytes: &mut [u8], count: usize, b: u8) -> usize
     count
 }
 
-// Answers the line in the first `count` bytes.
-fn answer_begun(s: Session, bytes: &[u8], count: usize) -> Reply
-    ensures { λ r. ⌜ r ≡ answered s (take count (now (bytes .entry))) ⌝ }
+// Decides the line in the first `count` bytes.
+fn decide_begun(opened: bool, t: Table, bytes: &[u8], count: usize) -> Decision
+    ensures { λ d. ⌜ d ≡ lineDecision (session opened t) (lineRead (take count (now (bytes .entry)))) ⌝ }
 {
     if count < bytes.len() {
-        return answer(s, &bytes[..count]);
+        return decide_line(opened, t, &bytes[..count]);
     }
-    answer(s, bytes)
+    decide_line(opened, t, bytes)
 }
 
 // Writes the output line of an answer into out, from place `at` on.
@@ -183,12 +148,14 @@ fn put_line(out: &mut [u8], at: usize, a: Numbers)
     out[at + wire::ANSWER_WIDTH] = 10;
 }
 
-// The whole piece. One answer for a line feed, so that an output line for each byte is room enough.
+// The whole piece. One answer for a line feed, so that an output line for each byte is room enough. The table is the loop's own, and
+// another record for a train is put into it where it stands: given to a function and back, the whole table would be copied.
 fn feed_all(x: Stream, piece: &[u8], out: &mut [u8]) -> Fed
     requires { ⌜ outputWidth * length (now piece) ≤ length (now out) ⌝ }
     ensures { λ r. ⌜ (r .taken ≡ true) × Taken x (now (piece .entry)) (now (out .entry)) r (now (out .exit)) ⌝ }
 {
-    let mut session = x.session;
+    let mut opened = x.session.opened;
+    let mut table = x.session.table;
     let mut bytes = x.bytes;
     let mut count = x.count;
     let mut at: usize = 0;
@@ -200,16 +167,28 @@ fn feed_all(x: Stream, piece: &[u8], out: &mut [u8]) -> Fed
             count = push(&mut bytes, count, b);
             continue;
         }
-        let r = answer_begun(session, &bytes, count);
-        put_line(out, at, r.answer);
+        let d = decide_begun(opened, table, &bytes, count);
+        let a = d.answer;
+        let c = d.change;
+        let n = calls::numbers_of(a);
+        put_line(out, at, n);
         at += OUTPUT_WIDTH;
-        session = r.session;
         count = 0;
+        opened = logic::either(opened, n.number == 0);
+        match c {
+            Change::Stay => {}
+            Change::Put(j, y) => {
+                table.trains[j] = y;
+            }
+            Change::Add(_) | Change::DropFirst | Change::Anew(_) => {
+                table = table::carry_out(table, c);
+            }
+        }
     }
     Fed {
         taken: true,
         stream: Stream {
-            session,
+            session: Session { opened, table },
             bytes,
             count,
         },
@@ -243,6 +222,6 @@ pub fn finish(x: Stream, out: &mut [u8]) -> usize
     if out.len() < OUTPUT_WIDTH {
         return 0;
     }
-    put_line(out, 0, refusal(1));
+    put_line(out, 0, calls::numbers_of(Answer::Refused(Refusal::BadLine)));
     OUTPUT_WIDTH
 }

@@ -5,19 +5,21 @@ use mathlib.Core.Bool.{false}
 use mathlib.Core.List.{List, [], _∷_, _++_, map}
 use mathlib.Core.Logic.{_⊎_, ⊎-elim, by-cases}
 use native.Mathlib.Decide.{decLe}
+use mathlib.Core.Option.{Option, none, some}
 use mathlib.Core.Path.{_≡_, refl, sym, ap, _∙_}
 use native.Mathlib.Numerals.{add-one}
 use native.Mathlib.Omega.{arith}
 use lib.Dec.{eqb}
 use lib.ListN.{length, take, drop, getD, set, length-take, length-drop, length-map, drop-of-length-le}
-use lib.Seq.{drop-cons, getD-take, getD-drop, getD-set-same, take-nil, take-suc, take-all, take-set-lt, set-at, append-snoc, length-take-le}
+use lib.Seq.{drop-cons, getD-take, getD-drop, getD-set-same, set-getD, take-nil, take-suc, take-all, take-set-lt, set-at, append-snoc, length-take-le}
 use borrow.Author.Tests.{eq-eqb, ne-eqb}
 use Rattle.logic.proofs.Tests.{by-test}
 use Rattle.train.specs.declared.Train.{Train}
+use Rattle.train.specs.declared.Limit.{Limit}
 use Rattle.table.specs.declared.Table.{Table}
-use Rattle.table.specs.declared.Found.{Found}
 use Rattle.table.specs.declared.Found.the-variants.{At, Nothing}
-use Rattle.table.specs.Table.{blankTrain, onLine, placeIn, findOf, isFound, trainAt, withTrain}
+use Rattle.table.specs.declared.Change.the-variants.{Put}
+use Rattle.table.specs.Table.{blankTrain, onLine, placeIn, placeOf, isFound, trainAt, limitAt, changed, found}
 
 -- what is known of a parameter's array speaks of the list mapped to the elements' machine form
 pub long : (X : Type 0) (f : Train → X) (l : List Train) (n : ℕ) → length (map f l) ≡ n → length l ≡ n
@@ -26,7 +28,7 @@ long X f l n e = sym (length-map l f) ∙ e
 -- ---- the search, from place i on
 
 module _ (t : Table) (id i : ℕ) (size : length (t .trains) ≡ 32) where
-  pub find-end : (t .count ≤ i) ⊎ (32 ≤ i) → placeIn (drop i (onLine t)) id i ≡ Nothing
+  pub find-end : (t .count ≤ i) ⊎ (32 ≤ i) → placeIn (drop i (onLine t)) id i ≡ none
   unfolding placeIn
   find-end h =
       let past : length (onLine t) ≤ i = simp length-take (⊎-elim (λ a. omega arith) (λ a. omega arith) h) in
@@ -38,7 +40,7 @@ module _ (t : Table) (id i : ℕ) (size : length (t .trains) ≡ 32) where
         let h : i < length (onLine t) = simp length-take (omega arith) in
         drop-cons (onLine t) i blankTrain h ∙ (rw (getD-take (t .count) (t .trains) i blankTrain a, add-one))
 
-    pub find-here : trainAt t i .id ≡ id → placeIn (drop i (onLine t)) id i ≡ At i
+    pub find-here : trainAt t i .id ≡ id → placeIn (drop i (onLine t)) id i ≡ some i
     unfolding placeIn
     find-here e = rw (from-place, eq-eqb _ _ e)
 
@@ -48,13 +50,13 @@ module _ (t : Table) (id i : ℕ) (size : length (t .trains) ≡ 32) where
 
 -- ---- what was found
 
-abbrev Among : ℕ → ℕ → Found → Type 0
-Among first past (At i) = (first ≤ i) × (i < past)
-Among first past Nothing = Unit {0}
+abbrev Among : ℕ → ℕ → Option ℕ → Type 0
+Among first past (some i) = (first ≤ i) × (i < past)
+Among first past none = Unit {0}
 
-wider : (first past : ℕ) (f : Found) → Among (suc first) past f → Among first past f
-wider first past (At i) h = (omega arith, h .1)
-wider first past Nothing h = tt
+wider : (first past : ℕ) (f : Option ℕ) → Among (suc first) past f → Among first past f
+wider first past (some i) h = (omega arith, h .1)
+wider first past none h = tt
 
 place-among : (xs : List Train) (id i : ℕ) → Among i (i + length xs) (placeIn xs id i)
 unfolding placeIn
@@ -67,21 +69,39 @@ place-among (x ∷ xs) id i =
     rw (e, placeIn, same) (wider i (suc i + length xs) (placeIn xs id (suc i)) (place-among xs id (suc i))))
 
 -- a train that was found is on the line
-pub found-among : (t : Table) (id i : ℕ) → findOf t id ≡ At i → i < length (onLine t)
-unfolding findOf
+pub found-among : (t : Table) (id i : ℕ) → placeOf t id ≡ some i → i < length (onLine t)
+unfolding placeOf
 found-among t id i e =
-    let h : Among 0 (0 + length (onLine t)) (At i) = rw e at (place-among (onLine t) id 0) in
+    let h : Among 0 (0 + length (onLine t)) (some i) = rw e at (place-among (onLine t) id 0) in
     omega (arith, h .1)
 
-pub found-below : (t : Table) (id i : ℕ) → findOf t id ≡ At i → i < t .count
+pub found-below : (t : Table) (id i : ℕ) → placeOf t id ≡ some i → i < t .count
 found-below t id i e =
     let h = found-among t id i e in
     let n = length-take (t .count) (t .trains) in
     omega arith
 
-pub not-found : (f : Found) → isFound f ≡ false → f ≡ Nothing
-not-found (At i) e = let z : _≡_ {A = ℕ} 0 1 = cc in absurd (omega arith)
-not-found Nothing e = refl
+pub not-found : (f : Option ℕ) → isFound f ≡ false → f ≡ none
+not-found (some i) e = let z : _≡_ {A = ℕ} 0 1 = cc in absurd (omega arith)
+not-found none e = refl
+
+-- what a search gives, taken apart
+pub none-found : (t : Table) (o : Option ℕ) → found t o ≡ Nothing → o ≡ none
+none-found t none e = refl
+none-found t (some i) e = let z : _≡_ {A = ℕ} 0 1 = cc in absurd (omega arith)
+
+pub record FoundAt (t : Table) (o : Option ℕ) (i : ℕ) (limit : Limit) (x : Train) : Type 0 where
+  pub place : o ≡ some i
+  pub limited : limit ≡ limitAt t i
+  pub here : x ≡ trainAt t i
+
+pub one-found : (t : Table) (o : Option ℕ) (i : ℕ) (limit : Limit) (x : Train) → found t o ≡ At i limit x → FoundAt t o i limit x
+one-found t none i limit x e = let z : _≡_ {A = ℕ} 0 1 = cc in absurd (omega arith)
+one-found t (some j) i limit x e =
+    let same : j ≡ i = cc in
+    let limited : limitAt t j ≡ limit = cc in
+    let here : trainAt t j ≡ x = cc in
+    record { place = ap (λ (n : ℕ). some n) same; limited = sym limited ∙ ap (limitAt t) same; here = sym here ∙ ap (trainAt t) same }
 
 -- ---- moving up
 
@@ -136,16 +156,20 @@ place-same (x ∷ xs) zero id i y e = rw e
 place-same (x ∷ xs) (suc k) id i y e = rw (place-same xs k id (suc i) y e)
 
 -- so each train is found where it was
-pub still-found : (t : Table) (i : ℕ) (y : Train) → i < t .count → y .id ≡ trainAt t i .id → (id : ℕ) → findOf (withTrain t i y) id ≡ findOf t id
-unfolding findOf
+pub still-found : (t : Table) (i : ℕ) (y : Train) → i < t .count → y .id ≡ trainAt t i .id → (id : ℕ) → placeOf (changed t (Put i y)) id ≡ placeOf t id
+unfolding placeOf
 still-found t i y below same id =
     let here : y .id ≡ getD (onLine t) i blankTrain .id =
     same ∙ ap (λ (u : Train). u .id) (sym (getD-take (t .count) (t .trains) i blankTrain below)) in
     rw (take-set-lt (t .count) (t .trains) i y below) (place-same (onLine t) i id 0 y here)
 
 -- and what was put at its place stands there
-pub still-there : (t : Table) (id i : ℕ) (y : Train) → findOf t id ≡ At i → trainAt (withTrain t i y) i ≡ y
+pub still-there : (t : Table) (id i : ℕ) (y : Train) → placeOf t id ≡ some i → trainAt (changed t (Put i y)) i ≡ y
 still-there t id i y found =
     let below = found-among t id i found in
     let size = length-take (t .count) (t .trains) in
     getD-set-same (t .trains) i y blankTrain (omega arith)
+
+-- the record that stands at a place, put there again
+pub put-same : (t : Table) (i : ℕ) (x : Train) → x ≡ trainAt t i → changed t (Put i x) ≡ t
+put-same t i x here = rw (ap (set (t .trains) i) here ∙ set-getD (t .trains) i blankTrain)

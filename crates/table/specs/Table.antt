@@ -1,5 +1,5 @@
 -- The table of trains: 32 places, of which the first `count` hold the trains on the line, front train first.
-use Prim.Native.Nat.{ℕ, zero, suc, _+_, _-_}
+use Prim.Native.Nat.{ℕ, zero, suc, _+_, _-_, _<_}
 use mathlib.Core.Bool.{Bool, true, false, cond}
 use mathlib.Core.Option.{Option, none, some}
 use mathlib.Core.List.{List, [], _∷_, _++_}
@@ -14,6 +14,8 @@ use Rattle.train.specs.Track.{limitBehind}
 use Rattle.table.specs.declared.Table.{Table}
 use Rattle.table.specs.declared.Found.{Found}
 use Rattle.table.specs.declared.Found.the-variants.{At, Nothing}
+use Rattle.table.specs.declared.Change.{Change}
+use Rattle.table.specs.declared.Change.the-variants.{Stay, Put, Add, DropFirst, Anew}
 
 -- a place without a train: zeros, and drive with cap 0
 abbrev pub blankTrain : Train
@@ -32,16 +34,16 @@ abbrev pub onLine : Table → List Train
 onLine t = take (t .count) (t .trains)
 
 -- the place of the train with this id, in a list whose first train is at place i
-unfoldable pub placeIn : List Train → ℕ → ℕ → Found
-placeIn [] id i = Nothing
-placeIn (x ∷ xs) id i = cond (eqb (x .id) id) (At i) (placeIn xs id (suc i))
+unfoldable pub placeIn : List Train → ℕ → ℕ → Option ℕ
+placeIn [] id i = none
+placeIn (x ∷ xs) id i = cond (eqb (x .id) id) (some i) (placeIn xs id (suc i))
 
-unfoldable pub findOf : Table → ℕ → Found
-findOf t id = placeIn (onLine t) id 0
+unfoldable pub placeOf : Table → ℕ → Option ℕ
+placeOf t id = placeIn (onLine t) id 0
 
-abbrev pub isFound : Found → Bool
-isFound (At i) = true
-isFound Nothing = false
+abbrev pub isFound : Option ℕ → Bool
+isFound (some i) = true
+isFound none = false
 
 abbrev pub trainAt : Table → ℕ → Train
 trainAt t i = getD (t .trains) i blankTrain
@@ -55,14 +57,29 @@ aheadOf t (suc i) = some (trainAt t i)
 abbrev pub limitAt : Table → ℕ → Limit
 limitAt t i = limitBehind (t .settings) (aheadOf t i)
 
+-- the table after a change
+abbrev pub changed : Table → Change → Table
+changed t Stay = t
 -- another record for the train at place i
-abbrev pub withTrain : Table → ℕ → Train → Table
-withTrain t i x = record { trains = set (t .trains) i x; settings = t .settings; count = t .count }
-
+changed t (Put i x) = record { trains = set (t .trains) i x; settings = t .settings; count = t .count }
 -- a train behind the last
-abbrev pub withLast : Table → Train → Table
-withLast t x = record { trains = set (t .trains) (t .count) x; settings = t .settings; count = t .count + 1 }
-
+changed t (Add x) = record { trains = set (t .trains) (t .count) x; settings = t .settings; count = t .count + 1 }
 -- the first train gone, the others one place nearer the front, and the place of the last blank
-abbrev pub withoutFirst : Table → Table
-withoutFirst t = record { trains = drop 1 (onLine t) ++ (blankTrain ∷ drop (t .count) (t .trains)); settings = t .settings; count = t .count - 1 }
+changed t DropFirst = record { trains = drop 1 (onLine t) ++ (blankTrain ∷ drop (t .count) (t .trains)); settings = t .settings; count = t .count - 1 }
+-- another table, with no train
+changed t (Anew σ) = emptyTable σ
+
+-- ---- words of inner contracts
+
+-- the train at a place, with its limit
+abbrev pub found : Table → Option ℕ → Found
+found t none = Nothing
+found t (some i) = At i (limitAt t i) (trainAt t i)
+
+-- the table has the place that a change needs
+abbrev pub Fits : Table → Change → Type 0
+Fits t Stay = Unit {0}
+Fits t (Put i x) = i < places
+Fits t (Add x) = t .count < places
+Fits t DropFirst = 0 < t .count
+Fits t (Anew σ) = Unit {0}

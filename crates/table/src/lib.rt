@@ -1,7 +1,7 @@
 // The table of trains: 32 places, by value.
 ghost use mathlib.Core.Path.{_≡_};
 ghost use Prim.Native.Nat.{min, _-_, _<_};
-ghost use Rattle.table.specs.Table.{places, blankTrain, emptyTable, findOf, trainAt, limitAt, withTrain, withLast, withoutFirst};
+ghost use Rattle.table.specs.Table.{places, blankTrain, emptyTable, placeOf, trainAt, limitAt, changed, found, Fits};
 use brake::Figures;
 use motion::Motion;
 use motion::Order;
@@ -18,10 +18,19 @@ pub struct Table {
     pub count: usize,
 }
 
-// The place of a train.
+// What a call needs of the train that it names: its place, its limit and its record.
 pub enum Found {
-    At(usize),
+    At(usize, Limit, Train),
     Nothing,
+}
+
+// What a call changes: nothing, the record at a place, a train behind the last, the first train gone, or another table with no train.
+pub enum Change {
+    Stay,
+    Put(usize, Train),
+    Add(Train),
+    DropFirst,
+    Anew(Settings),
 }
 
 // What stands in a place without a train. No call reads it.
@@ -54,10 +63,12 @@ pub fn empty_table(s: Settings) -> Table
     }
 }
 
-// The place of the train with this id. Whatever the count, no place past the last is read.
+// The train with this id. Whatever the count, no place past the last is read. The limit is worked out here, where the record ahead is at
+// hand: passed to another function, the table would be copied once more.
 pub fn find(t: Table, id: u64) -> Found
-    ensures { λ r. ⌜ r ≡ findOf t id ⌝ }
+    ensures { λ r. ⌜ r ≡ found t (placeOf t id) ⌝ }
 {
+    let s = t.settings;
     let n = t.count;
     let mut i: usize = 0;
     while i < PLACES {
@@ -65,7 +76,12 @@ pub fn find(t: Table, id: u64) -> Found
             return Found::Nothing;
         }
         if t.trains[i].id == id {
-            return Found::At(i);
+            let x = t.trains[i];
+            if i == 0 {
+                return Found::At(i, Limit::Place(s.end), x);
+            }
+            let ahead = t.trains[i - 1];
+            return Found::At(i, train::limit_behind(s, ahead), x);
         }
         i += 1;
     }
@@ -73,7 +89,7 @@ pub fn find(t: Table, id: u64) -> Found
 }
 
 // Total: past the last place there is a blank train.
-pub fn train_at(t: Table, i: usize) -> Train
+fn train_at(t: Table, i: usize) -> Train
     ensures { λ r. ⌜ r ≡ trainAt t i ⌝ }
 {
     if i < PLACES {
@@ -82,22 +98,20 @@ pub fn train_at(t: Table, i: usize) -> Train
     blank_train()
 }
 
-// Total: past the last place nothing is set.
-pub fn with_train(t: Table, i: usize, x: Train) -> Table
-    ensures { λ r. ⌜ r ≡ withTrain t i x ⌝ }
+// Another record for the train at place i.
+fn with_train(t: Table, i: usize, x: Train) -> Table
+    requires { ⌜ i < places ⌝ }
+    ensures { λ r. ⌜ r ≡ changed t (Change.Put i x) ⌝ }
 {
-    if i < PLACES {
-        let mut u = t;
-        u.trains[i] = x;
-        return u;
-    }
-    t
+    let mut u = t;
+    u.trains[i] = x;
+    u
 }
 
 // A train enters behind the last.
-pub fn with_last(t: Table, x: Train) -> Table
+fn with_last(t: Table, x: Train) -> Table
     requires { ⌜ t .count < places ⌝ }
-    ensures { λ r. ⌜ r ≡ withLast t x ⌝ }
+    ensures { λ r. ⌜ r ≡ changed t (Change.Add x) ⌝ }
 {
     let n = t.count;
     let mut u = t;
@@ -118,9 +132,9 @@ fn last_place(n: usize) -> usize
 }
 
 // The first train gone: the others move up, and the place of the last is blank.
-pub fn without_first(t: Table) -> Table
+fn without_first(t: Table) -> Table
     requires { ⌜ 0 < t .count ⌝ }
-    ensures { λ r. ⌜ r ≡ withoutFirst t ⌝ }
+    ensures { λ r. ⌜ r ≡ changed t Change.DropFirst ⌝ }
 {
     let n = t.count;
     let last = last_place(n);
@@ -133,6 +147,20 @@ pub fn without_first(t: Table) -> Table
     u.trains[last] = blank_train();
     u.count = n - 1;
     u
+}
+
+// The table after a change.
+pub fn carry_out(t: Table, c: Change) -> Table
+    requires { ⌜ Fits t c ⌝ }
+    ensures { λ r. ⌜ r ≡ changed t c ⌝ }
+{
+    match c {
+        Change::Stay => t,
+        Change::Put(i, x) => with_train(t, i, x),
+        Change::Add(x) => with_last(t, x),
+        Change::DropFirst => without_first(t),
+        Change::Anew(s) => empty_table(s),
+    }
 }
 
 // The limit of the train at place i.

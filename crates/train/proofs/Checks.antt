@@ -22,9 +22,9 @@ pub call-back-allowed : (x : Train) (place : ℕ) → not (callBackAllowed x pla
 unfolding callBackAllowed
 call-back-allowed x place e = between-both (reachOf x) (x .authority .end) place (both (computable x) _ (not-false _ e) .1)
 
-pub first-leaves : (i : ℕ) (x : Train) → not (mayLeave i x) ≡ false → i ≡ 0
+pub first-leaves : (i : ℕ) (x : Train) → mayLeave i x ≡ true → i ≡ 0
 unfolding mayLeave
-first-leaves i x e = eqb-true i 0 (both (eqb i 0) _ (both _ _ (not-false _ e) .0) .0)
+first-leaves i x e = eqb-true i 0 (both (eqb i 0) _ (both _ _ e .0) .0)
 
 module _ (x : Train) (r : Reading) (e : allowed x r ≡ true) where
   pub allowed-head : x .motion .head ≤ r .head

@@ -1,4 +1,4 @@
 pub mod Track
 pub mod Records
-pub mod Acts
+pub mod Verdicts
 pub mod Checks

@@ -7,13 +7,10 @@ use Rattle.motion.specs.declared.Order.{Order}
 use Rattle.motion.specs.declared.Order.the-variants.{Drive, Brake}
 use Rattle.motion.specs.Motion.{stands}
 use Rattle.calls.specs.declared.Asked.{Asked}
-use Rattle.calls.specs.declared.Act.{Act}
-use Rattle.calls.specs.declared.Act.the-variants.{Report, Extend, CallBack, Hold, Lift}
-use Rattle.train.specs.declared.Settings.{Settings}
 use Rattle.train.specs.declared.Authority.{Authority}
 use Rattle.train.specs.declared.Train.{Train}
 use Rattle.train.specs.Record.{authorised, marked, withHeld}
-use Rattle.train.specs.Report.{reachOf, reported, computable}
+use Rattle.train.specs.Report.{reachOf, computable}
 
 -- a request whose number is at or below the starting number, or below the last accepted
 unfoldable pub isOld : Authority → Asked → Bool
@@ -45,14 +42,6 @@ callBackAllowed x place = computable x && between (reachOf x) (x .authority .end
 -- Hold and lift: the mark alone, which the next report reads
 abbrev pub holding : Train → Bool → Train
 holding x b = marked x (withHeld (x .marks) b)
-
--- the record after an accepted act
-unfoldable pub acted : Settings → Act → Train → Train
-acted σ (Report r) x = reported σ x r
-acted σ (Extend q) x = extended x q
-acted σ (CallBack place) x = calledBack x place
-acted σ Hold x = holding x true
-acted σ Lift x = holding x false
 
 -- Take off: the first train, standing under brake
 abbrev pub isBrake : Order → Bool

@@ -3,4 +3,4 @@ pub mod Record
 pub mod Track
 pub mod Report
 pub mod Acts
-pub mod Checks
+pub mod Decide

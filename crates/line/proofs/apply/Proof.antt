@@ -1,46 +1,26 @@
 -- `line::apply` meets its contract.
 -- Assumes nothing.
+use mathlib.Core.Path.{_≡_}
+use lib.ListN.{length}
+use Rattle.table.proofs.Places.{long}
+use Rattle.line.specs.Step.{step}
+use Rattle.line.proofs.Steps.{decided-fits}
 use borrow.Author.Needs.{needs}
 use Rattle.line.proofs.apply.Statement.{statement}
 use Rattle.line.proofs.apply.Tie as tie
 
-enum-known-c : tie.Need-enum-known-c
-enum-known-c c = search needs
+decide-call-requires : tie.Need-decide-call-requires
+decide-call-requires c κs = search needs
 
-enter-requires : tie.Need-enter-requires
-enter-requires c κs = search needs
-
-enum-known-c-2 : tie.Need-enum-known-c-2
-enum-known-c-2 c = search needs
-
-apply-own-requires : tie.Need-apply-own-requires
-apply-own-requires c κs = search needs
-
-enum-known-c-3 : tie.Need-enum-known-c-3
-enum-known-c-3 c = search needs
-
-take-off-requires : tie.Need-take-off-requires
-take-off-requires c κs = search needs
+carry-out-requires : tie.Need-carry-out-requires
+carry-out-requires c κs =
+    let a = c .before .args in
+    let size : length (a .t .trains) ≡ 32 = search (needs, long) in
+    rw (c .decide-call .ensures) (decided-fits (a .t) size (a .c))
 
 returns : tie.Need-returns
-returns c = rw (c .before .before .c .given .1) (c .enter .ensures)
-
-returns-2 : tie.Need-returns-2
-returns-2 c = rw (c .before .before .c2 .given .1) (c .apply-own .ensures)
-
-returns-3 : tie.Need-returns-3
-returns-3 c = rw (c .before .before .c3 .given .1) (c .take-off .ensures)
+unfolding step
+returns c = rw (c .carry-out .ensures, c .before .decide-call .ensures)
 
 pub apply-spec : {M : Type 1} → statement M
-apply-spec =
-    tie.close
-    (tie.spec
-    enum-known-c
-    enter-requires
-    enum-known-c-2
-    apply-own-requires
-    enum-known-c-3
-    take-off-requires
-    returns
-    returns-2
-    returns-3)
+apply-spec = tie.close (tie.spec decide-call-requires carry-out-requires returns)

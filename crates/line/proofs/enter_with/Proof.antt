@@ -1,12 +1,13 @@
 -- `line::enter_with` meets its contract.
 -- Assumes nothing.
+use mathlib.Core.Option.{none}
 use mathlib.Core.Path.{_≡_, sym, _∙_}
 use native.Mathlib.Nat.{add-zero}
 use native.Mathlib.Omega.{arith}
 use borrow.Author.Tests.{not-true, not-false}
 use Rattle.train.specs.Track.{withinLimit}
-use Rattle.table.specs.declared.Found.the-variants.{Nothing}
-use Rattle.table.specs.Table.{findOf, limitAt}
+use Rattle.table.proofs.Places.{none-found, one-found}
+use Rattle.table.specs.Table.{placeOf, limitAt}
 use Rattle.line.proofs.Steps.{enter-known, enter-full, enter-short, enter-beyond, enter-taken}
 use borrow.Author.Needs.{needs}
 use Rattle.line.proofs.enter_with.Statement.{statement}
@@ -28,8 +29,8 @@ refuse-requires-2 : tie.Need-refuse-requires-2
 refuse-requires-2 c κs = search needs
 
 -- the id is not on the line
-absent : (c : tie.After-enum-told2) → let a = c .before .before .before .args in findOf (a .t) (a .e .id) ≡ Nothing
-absent c = sym (c .before .before .find .ensures) ∙ c .enum-told2 .given .1
+absent : (c : tie.After-enum-told2) → let a = c .before .before .before .args in placeOf (a .t) (a .e .id) ≡ none
+absent c = none-found _ _ (sym (c .before .before .find .ensures) ∙ c .enum-told2 .given .1)
 
 returns : tie.Need-returns
 returns c =
@@ -75,19 +76,19 @@ returns-3 c =
 new-train-requires : tie.Need-new-train-requires
 new-train-requires c κs = search needs
 
-with-last-requires : tie.Need-with-last-requires
-with-last-requires c κs = search needs
+accept-requires : tie.Need-accept-requires
+accept-requires c κs = search needs
 
 returns-4 : tie.Need-returns-4
 returns-4 c =
     let start = c .before .before .before .before in
-    c .refuse .ensures ∙ sym (enter-known _ _ _ (start .pre .0) _ (sym (c .before .before .before .find .ensures) ∙ c .before .enum-told .given .1))
+    c .refuse .ensures ∙ sym (enter-known _ _ _ (start .pre .0) _ (one-found _ _ _ _ _ (sym (c .before .before .before .find .ensures) ∙ c .before .enum-told .given .1) .place))
 
 returns-5 : tie.Need-returns-5
 returns-5 c =
     let test = c .before .before in
     let none = test .before .before .before .before .before .before .before in
-    rw (c .with-last .ensures, c .before .new-train .ensures)
+    rw (c .accept .ensures, c .before .new-train .ensures)
     (sym (enter-taken _ _ _ (none .before .before .before .pre .0) (absent none) (omega arith) (omega arith) (at-head (test .before) ∙ not-false _ (test .if3 .left))))
 
 pub enter-with-spec : {M : Type 1} → statement M
@@ -109,6 +110,6 @@ enter-with-spec =
     refuse-requires-4
     returns-3
     new-train-requires
-    with-last-requires
+    accept-requires
     returns-4
     returns-5)

@@ -1,44 +1,41 @@
 -- `stream::answer` meets its contract.
 -- Assumes nothing.
-use mathlib.Core.Path.{sym, ap, _∙_}
-use Rattle.stream.specs.Session.{replyTo}
+use mathlib.Core.Path.{_≡_, ap}
+use lib.ListN.{length}
+use Rattle.table.proofs.Places.{long}
+use Rattle.stream.specs.Session.{replied}
+use Rattle.stream.proofs.Lines.{line-fits}
 use borrow.Author.Needs.{needs}
 use Rattle.stream.proofs.answer.Statement.{statement}
 use Rattle.stream.proofs.answer.Tie as tie
 
-read-line-requires : tie.Need-read-line-requires
-read-line-requires c κs = search needs
+decide-line-requires : tie.Need-decide-line-requires
+decide-line-requires c κs = search needs
 
-enum-known-read : tie.Need-enum-known-read
-enum-known-read c = search needs
+numbers-of-requires : tie.Need-numbers-of-requires
+numbers-of-requires c κs = search needs
 
-answer-request-requires : tie.Need-answer-request-requires
-answer-request-requires c κs = search needs
+either-requires : tie.Need-either-requires
+either-requires c κs = search needs
 
-enum-told : tie.Need-enum-told
-enum-told c = search needs
+size : (c : tie.Start) → length (c .args .s .table .trains) ≡ 32
+size c = search (needs, long)
 
-turn-down-requires : tie.Need-turn-down-requires
-turn-down-requires c κs = search needs
+carry-out-requires : tie.Need-carry-out-requires
+carry-out-requires c κs =
+    let d = c .before .before .before in
+    let start = d .before .before .before in
+    line-fits (start .args .s) (size start) _ (d .decide-line .result) (d .decide-line .ensures)
 
 returns : tie.Need-returns
 returns c =
-    let s = c .before .before .before .before .before .before .args .s in
-    c .answer-request .ensures ∙ ap (replyTo s) (sym (c .before .before .read .given .1) ∙ c .before .before .before .before .read-line .ensures)
-
-returns-2 : tie.Need-returns-2
-returns-2 c =
-    let s = c .before .before .before .before .before .args .s in
-    c .turn-down .ensures ∙ ap (replyTo s) (sym (c .before .enum-told .given .1) ∙ c .before .before .before .read-line .ensures)
+    let e = c .before in
+    let n = e .before .before in
+    let d = n .before in
+    let s = d .before .before .before .args .s in
+    rw (c .carry-out .ensures, e .either .ensures, n .numbers-of .ensures) (ap (replied s) (d .decide-line .ensures))
 
 pub answer-spec : {M : Type 1} → statement M
 answer-spec =
     tie.close
-    (tie.spec
-    read-line-requires
-    enum-known-read
-    answer-request-requires
-    enum-told
-    turn-down-requires
-    returns
-    returns-2)
+    (tie.spec decide-line-requires numbers-of-requires either-requires carry-out-requires returns)

@@ -1,38 +1,55 @@
 -- `stream::feed_all` meets its contract.
 -- Assumes nothing.
-use Prim.Native.Nat.{ℕ, _+_, _-_, _*_, _≤_}
+use Prim.Native.Nat.{ℕ, _+_, _-_, _*_, _≤_, _<_}
 use native.Mathlib.Omega.{arith}
-use mathlib.Core.Path.{_≡_, refl, ap, _∙_}
+use mathlib.Core.Path.{_≡_, refl, sym, ap, subst, _∙_}
 use mathlib.Core.List.{List, []}
-use lib.ListN.{length, take, drop}
+use lib.ListN.{length, take, drop, length-set}
 use lib.Seq.{drop-length}
 use borrow.Author.Needs.{needs}
+use Rattle.table.specs.declared.Table.{Table}
+use Rattle.table.specs.Table.{places, changed, Fits}
+use Rattle.table.proofs.Places.{long}
 use Rattle.stream.specs.declared.Session.{Session}
+use Rattle.stream.specs.Session.{session, replied}
 use Rattle.stream.specs.Input.{keptWidth, outputWidth}
 use Rattle.stream.proofs.Bytes.{output-all, output-front, output-back, same-further}
-use Rattle.stream.proofs.Lines.{Standing, standing, standing-end, byte-taken, line-taken, piece-taken}
+use Rattle.stream.proofs.Lines.{Standing, standing, standing-end, line-fits, byte-taken, line-taken, piece-taken}
 use Rattle.stream.proofs.feed_all.Statement.{statement}
 use Rattle.stream.proofs.feed_all.Tie as tie
 
 -- After i bytes of the piece: `at` bytes of out are written, an output line for a byte at most, and the others are as before. What is
 -- still to come leaves the session where the whole piece leaves it.
-record Feeding (piece before : List ℕ) (from : Standing) (out : List ℕ) (session : Session) (bytes : List ℕ) (count at i : ℕ) : Type 0 where
+record Feeding (piece before : List ℕ) (from : Standing) (out : List ℕ) (s : Session) (bytes : List ℕ) (count at i : ℕ) : Type 0 where
   within : i ≤ length piece
   room : at ≤ outputWidth * i
   size : length out ≡ length before
   line : length bytes ≡ keptWidth
+  trains : length (s .table .trains) ≡ places
   others : drop at out ≡ drop at before
-  stands : from ≡ standing session (take count bytes) (take at out) (drop i piece)
+  stands : from ≡ standing s (take count bytes) (take at out) (drop i piece)
 
 abbrev Inv-loop : tie.InvT-loop
-Inv-loop piece out₀ session₀ bytes₀ count₀ at₀ i₀ out session bytes count at i =
-    Feeding piece out₀ (standing session₀ (take count₀ bytes₀) [] piece) out session bytes count at i
+Inv-loop piece out₀ opened₀ table₀ bytes₀ count₀ at₀ i₀ out opened table bytes count at i =
+    Feeding piece out₀ (standing (session opened₀ table₀) (take count₀ bytes₀) [] piece) out (session opened table) bytes count at i
 
 abbrev μ-loop : tie.MeasureT-loop
-μ-loop piece out₀ session₀ bytes₀ count₀ at₀ i₀ out session bytes count at i = length piece - i
+μ-loop piece out₀ opened₀ table₀ bytes₀ count₀ at₀ i₀ out opened table bytes count at i = length piece - i
+
+size : (c : tie.Start Inv-loop μ-loop) → length (c .args .x .session .table .trains) ≡ 32
+size c = search (needs, long)
 
 loop-holds : tie.Need-loop-holds Inv-loop μ-loop
-loop-holds c = record { within = omega arith; room = omega arith; size = refl; line = search needs; others = refl; stands = refl }
+loop-holds c =
+    record {
+      within = omega arith;
+      room = omega arith;
+      size = refl;
+      line = search needs;
+      trains = size (c .before .before .before .before);
+      others = refl;
+      stands = refl;
+    }
 
 shared-slice-read-b : tie.Need-shared-slice-read-b Inv-loop μ-loop
 shared-slice-read-b c = omega arith
@@ -59,17 +76,21 @@ loop-again c =
       room = omega arith;
       size = k .loop .inv .size;
       line = search needs;
+      trains = k .loop .inv .trains;
       others = k .loop .inv .others;
       stands =
           k .loop .inv .stands
-          ∙ byte-taken (k .loop .session) (take (k .loop .count) (k .loop .bytes)) (take (k .loop .at) (k .loop .out)) (a .piece .now) (k .loop .i) more _ (c .before .before .before .if1 .taken) (c .before .push .ensures);
+          ∙ byte-taken (session (k .loop .opened) (k .loop .table)) (take (k .loop .count) (k .loop .bytes)) (take (k .loop .at) (k .loop .out)) (a .piece .now) (k .loop .i) more _ (c .before .before .before .if1 .taken) (c .before .push .ensures);
     }
 
-slice-aggregate-answer-begun : tie.Need-slice-aggregate-answer-begun Inv-loop μ-loop
-slice-aggregate-answer-begun c = search needs
+slice-aggregate-decide-begun : tie.Need-slice-aggregate-decide-begun Inv-loop μ-loop
+slice-aggregate-decide-begun c = search needs
 
-answer-begun-requires : tie.Need-answer-begun-requires Inv-loop μ-loop
-answer-begun-requires c κs = search needs
+decide-begun-requires : tie.Need-decide-begun-requires Inv-loop μ-loop
+decide-begun-requires c κs = search needs
+
+numbers-of-requires : tie.Need-numbers-of-requires Inv-loop μ-loop
+numbers-of-requires c κs = search needs
 
 put-line-requires : tie.Need-put-line-requires Inv-loop μ-loop
 put-line-requires c κs = omega arith
@@ -77,30 +98,102 @@ put-line-requires c κs = omega arith
 add-at : tie.Need-add-at Inv-loop μ-loop
 add-at c = omega arith
 
+either-requires : tie.Need-either-requires Inv-loop μ-loop
+either-requires c κs = search needs
+
+-- ---- a line feed: what every arm of the match stands on
+
+abbrev decided : tie.After-either Inv-loop μ-loop → tie.After-decide-begun Inv-loop μ-loop
+decided e = e .before .before .before .before .before .before .before
+
+abbrev turn : tie.After-decide-begun Inv-loop μ-loop → tie.In-loop Inv-loop μ-loop
+turn d = d .before .before .before .before
+
+abbrev tableThen : tie.After-decide-begun Inv-loop μ-loop → Table
+tableThen d = turn d .before .loop .table
+
+-- the table has the place that the change needs
+fits : (d : tie.After-decide-begun Inv-loop μ-loop) → Fits (tableThen d) (d .decide-begun .result .change)
+fits d =
+    let k = turn d .before in
+    line-fits (session (k .loop .opened) (k .loop .table)) (k .loop .inv .trains) _ (d .decide-begun .result) (d .decide-begun .ensures)
+
+-- the answer is written, and u is the table with the change
+line-fed : (e : tie.After-either Inv-loop μ-loop) (u : Table) → u ≡ changed (tableThen (decided e)) (decided e .decide-begun .result .change) → length (u .trains) ≡ places
+    → let p = e .before .before .before .before in
+    let k = turn (decided e) .before in
+    let a = k .before .before .before .before .before .args in
+    Inv-loop (a .piece .now) (a .out .now) (a .x .session .opened) (a .x .session .table) (a .x .bytes) (a .x .count) 0 0 (p .put-line .last .0) (e .either .result) u (k .loop .bytes) 0 (k .loop .at + outputWidth) (k .loop .i + 1)
+line-fed e u made all =
+    let p = e .before .before .before .before in
+    let n = p .before .before in
+    let d = n .before in
+    let k = turn d .before in
+    let a = k .before .before .before .before .before .args in
+    let at = k .loop .at in
+    let out = k .loop .out in
+    let s = session (k .loop .opened) (k .loop .table) in
+    let room : at + outputWidth ≤ length out = omega arith in
+    let same : replied s (d .decide-begun .result) .session ≡ session (e .either .result) u = rw (e .either .ensures, n .numbers-of .ensures, made) in
+    record {
+      within = omega arith;
+      room = omega arith;
+      size = ap length (p .put-line .ensures) ∙ output-all out at (n .numbers-of .result) room ∙ k .loop .inv .size;
+      line = k .loop .inv .line;
+      trains = all;
+      others = ap (drop (at + outputWidth)) (p .put-line .ensures) ∙ output-back out at (n .numbers-of .result) room ∙ same-further outputWidth at out (a .out .now) (k .loop .inv .others);
+      stands =
+          k .loop .inv .stands
+          ∙ line-taken s (take (k .loop .count) (k .loop .bytes)) (take at out) (a .piece .now) (k .loop .i) (turn d .loop-test .taken) (d .decide-begun .result) _
+          (d .before .before .if1 .left) (d .decide-begun .ensures)
+          (ap (take (at + outputWidth)) (p .put-line .ensures) ∙ output-front out at (n .numbers-of .result) room ∙ rw (n .numbers-of .ensures))
+          ∙ ap (λ (z : Session). standing z [] (take (at + outputWidth) (p .put-line .last .0)) (drop (k .loop .i + 1) (a .piece .now))) same;
+    }
+
+enum-told : tie.Need-enum-told Inv-loop μ-loop
+enum-told c = search needs
+
 loop-less-2 : tie.Need-loop-less-2 Inv-loop μ-loop
 loop-less-2 c = omega arith
 
 loop-again-2 : tie.Need-loop-again-2 Inv-loop μ-loop
 loop-again-2 c =
-    let p = c .before .before .before in
-    let r = p .before .before .answer-begun in
-    let k = p .before .before .before .before .before .before .before in
-    let a = k .before .before .before .before .before .args in
-    let more = p .before .before .before .before .before .before .loop-test .taken in
-    let n = r .result .answer in
-    let at = k .loop .at in
-    let room : at + outputWidth ≤ length (k .loop .out) = omega arith in
-    record {
-      within = omega arith;
-      room = omega arith;
-      size = ap length (p .put-line .ensures) ∙ output-all (k .loop .out) at n room ∙ k .loop .inv .size;
-      line = k .loop .inv .line;
-      others = ap (drop (at + outputWidth)) (p .put-line .ensures) ∙ output-back (k .loop .out) at n room ∙ same-further outputWidth at (k .loop .out) (a .out .now) (k .loop .inv .others);
-      stands =
-          k .loop .inv .stands
-          ∙ line-taken (k .loop .session) (take (k .loop .count) (k .loop .bytes)) (take at (k .loop .out)) (a .piece .now) (k .loop .i) more (r .result) _
-          (p .before .before .before .before .if1 .left) (r .ensures) (ap (take (at + outputWidth)) (p .put-line .ensures) ∙ output-front (k .loop .out) at n room);
-    }
+    let e = c .before .before in
+    let t = tableThen (decided e) in
+    line-fed e t (sym (ap (changed t) (c .enum-told .given .1))) (turn (decided e) .before .loop .inv .trains)
+
+enum-known-c : tie.Need-enum-known-c Inv-loop μ-loop
+enum-known-c c = search needs
+
+-- another record: its place is there
+below : (c : tie.After-known-told Inv-loop μ-loop) → c .before .c .given .0 .0 < places
+below c =
+    let r = c .before in
+    subst (Fits _) (r .c .given .1) (fits (decided (r .before .before)))
+
+mul-y : tie.Need-mul-y Inv-loop μ-loop
+mul-y c = let j = below c in omega arith
+
+element-set-from-y : tie.Need-element-set-from-y Inv-loop μ-loop
+element-set-from-y c = let j = below c in omega arith
+
+loop-less-3 : tie.Need-loop-less-3 Inv-loop μ-loop
+loop-less-3 c = let more = turn (decided (c .before .before .before)) .loop-test .taken in omega arith
+
+loop-again-3 : tie.Need-loop-again-3 Inv-loop μ-loop
+loop-again-3 c =
+    let r = c .before in
+    let e = r .before .before in
+    line-fed e _ (sym (ap (changed (tableThen (decided e))) (r .c .given .1))) (simp length-set (turn (decided e) .before .loop .inv .trains))
+
+carry-out-requires : tie.Need-carry-out-requires Inv-loop μ-loop
+carry-out-requires c κs = fits (decided (c .before))
+
+loop-less-4 : tie.Need-loop-less-4 Inv-loop μ-loop
+loop-less-4 c = omega arith
+
+loop-again-4 : tie.Need-loop-again-4 Inv-loop μ-loop
+loop-again-4 c = line-fed (c .before .before) (c .carry-out .result) (c .carry-out .ensures) (search (needs, long))
 
 same-length : tie.Need-same-length Inv-loop μ-loop
 same-length c = c .before .loop .inv .size
@@ -110,13 +203,14 @@ returns c =
     let k = c .before in
     let a = k .before .before .before .before .before .args in
     let piece = a .piece .now in
+    let s = session (k .loop .opened) (k .loop .table) in
     let end : k .loop .i ≡ length piece = omega arith in
     let none : drop (k .loop .i) piece ≡ [] = rw end (drop-length piece) in
     let taken =
     k .loop .inv .stands
-    ∙ ap (standing (k .loop .session) (take (k .loop .count) (k .loop .bytes)) (take (k .loop .at) (k .loop .out))) none
-    ∙ standing-end (k .loop .session) (take (k .loop .count) (k .loop .bytes)) (take (k .loop .at) (k .loop .out)) in
-    (refl, piece-taken (a .x) piece (a .out .now) (k .loop .out) (k .loop .bytes) (k .loop .session) (k .loop .count) (k .loop .at) (omega arith) (k .loop .inv .line) (k .loop .inv .others) taken)
+    ∙ ap (standing s (take (k .loop .count) (k .loop .bytes)) (take (k .loop .at) (k .loop .out))) none
+    ∙ standing-end s (take (k .loop .count) (k .loop .bytes)) (take (k .loop .at) (k .loop .out)) in
+    (refl, piece-taken (a .x) piece (a .out .now) (k .loop .out) (k .loop .bytes) s (k .loop .count) (k .loop .at) (omega arith) (k .loop .inv .line) (k .loop .inv .others) taken)
 
 pub feed-all-spec : {M : Type 1} → statement M
 feed-all-spec =
@@ -131,11 +225,22 @@ feed-all-spec =
     push-requires
     loop-less
     loop-again
-    slice-aggregate-answer-begun
-    answer-begun-requires
+    slice-aggregate-decide-begun
+    decide-begun-requires
+    numbers-of-requires
     put-line-requires
     add-at
+    either-requires
+    enum-told
     loop-less-2
     loop-again-2
+    enum-known-c
+    mul-y
+    element-set-from-y
+    loop-less-3
+    loop-again-3
+    carry-out-requires
+    loop-less-4
+    loop-again-4
     same-length
     returns)

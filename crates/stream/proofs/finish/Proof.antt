@@ -21,8 +21,8 @@ returns-2 c =
     let e = no-room (a .x) (a .out .now) (c .if2 .taken) in
     (rw e refl, rw e refl)
 
-refusal-requires : tie.Need-refusal-requires
-refusal-requires c κs = search needs
+numbers-of-requires : tie.Need-numbers-of-requires
+numbers-of-requires c κs = search needs
 
 put-line-requires : tie.Need-put-line-requires
 put-line-requires c κs = search needs
@@ -40,9 +40,9 @@ returns-3 c =
     let start = room .before .before .before .before in
     let a = start .args in
     let e = line-begun (a .x) (a .out .now) (room .if2 .left) (room .before .if1 .left) (long start) in (
-      rw (e, ← p .before .refusal .ensures) (p .put-line .ensures ∙ output-first (a .out .now) (p .before .refusal .result)),
+      rw (e, ← p .before .numbers-of .ensures) (p .put-line .ensures ∙ output-first (a .out .now) (p .before .numbers-of .result)),
       rw e (sym (output-long (numbers 1 0 0 0))),
     )
 
 pub finish-spec : {M : Type 1} → statement M
-finish-spec = tie.close (tie.spec returns returns-2 refusal-requires put-line-requires same-length returns-3)
+finish-spec = tie.close (tie.spec returns returns-2 numbers-of-requires put-line-requires same-length returns-3)

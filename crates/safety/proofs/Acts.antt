@@ -1,0 +1,180 @@
+-- An accepted act of a train: its record is what the history tells, the invariant holds on, and what the act gives is within bounds.
+-- Assumes nothing.
+use Prim.Native.Nat.{ℕ, zero, suc, _+_, _-_, _≤_}
+use mathlib.Core.Bool.{Bool, true, false, cond, not, _&&_}
+use mathlib.Core.Option.{Option, none, some, Option·map, Option·getD}
+use mathlib.Core.Path.{_≡_, refl, subst}
+use native.Mathlib.Nat.{le-refl}
+use native.Mathlib.Omega.{arith}
+use lib.Dec.{eqb}
+use borrow.Author.Tests.{not-false}
+use Rattle.logic.proofs.Tests.{by-test}
+use Rattle.brake.specs.declared.Figures.{Figures}
+use Rattle.motion.specs.declared.Motion.{Motion}
+use Rattle.motion.specs.declared.Order.{Order}
+use Rattle.motion.specs.declared.Order.the-variants.{Drive, Brake}
+use Rattle.motion.specs.Orders.{orderCap, worstCase}
+use Rattle.motion.proofs.Domination.{NoWorse}
+use Rattle.motion.proofs.Slowing.{Slowed, slowed-start, slowed-brake}
+use Rattle.calls.specs.declared.Reading.{Reading}
+use Rattle.calls.specs.declared.Asked.{Asked}
+use Rattle.calls.specs.declared.Act.{Act}
+use Rattle.calls.specs.declared.Act.the-variants.{Report, Extend, CallBack, Hold, Lift}
+use Rattle.calls.specs.declared.Answer.the-variants.{Accepted}
+use Rattle.calls.specs.declared.Values.{Values}
+use Rattle.calls.specs.declared.Values.the-variants.{Entered, Ordered, Extended, Zeros}
+use Rattle.calls.specs.Answers.{numbersOf}
+use Rattle.calls.specs.Checks.{firstOf}
+use Rattle.calls.proofs.Checks.{passed}
+use Rattle.train.specs.declared.Settings.{Settings}
+use Rattle.train.specs.declared.Authority.{Authority}
+use Rattle.train.specs.declared.Train.{Train}
+use Rattle.train.specs.declared.Limit.{Limit}
+use Rattle.train.specs.Track.{withinLimit}
+use Rattle.train.specs.Report.{reachOf, allowed, motionAfter, reported}
+use Rattle.train.specs.Acts.{isRepeat, granted, extended, endingAt}
+use Rattle.train.specs.Decide.{Ruling, decide}
+use Rattle.train.proofs.Records.{held-brakes}
+use Rattle.train.proofs.Track.{InLimit, limit-tested, limit-below}
+use Rattle.train.proofs.Checks.{report-allowed, call-back-allowed, allowed-head, allowed-no-worse}
+use Rattle.safety.specs.History.{Told, levelAfter, orderIn, longer, still, toldAct}
+use Rattle.safety.specs.Claim.{isHeld, recordOf}
+use Rattle.safety.proofs.Train.{Guarded, guarded-report, guarded-still}
+
+-- ---- the invariant of a train that the history tells of
+
+-- Held with reports since: the first of them ordered the brake, and each of the n others ended a braked cycle.
+abbrev pub Slowing : Settings → Train → Option ℕ → Type 0
+Slowing σ x none = Unit {0}
+Slowing σ x (some zero) = Unit {0}
+Slowing σ x (some (suc n)) = (x .order ≡ Brake) × Slowed (x .figures) (σ .limits .ceiling) n (x .motion)
+
+pub record Steady (σ : Settings) (limit : Limit) (x : Told) : Type 0 where
+  pub guarded : Guarded σ limit (recordOf x)
+  pub slowing : Slowing σ (recordOf x) (x .now .held)
+
+-- ---- the record that a report tells of
+
+-- the order is read back from the answer
+order-told : (o : Order) (r : ℕ) → orderIn (numbersOf (Accepted (Ordered o r))) ≡ o
+order-told (Drive c) r = refl
+order-told Brake r = refl
+
+level-worst : (k : Figures) (m : Motion) (o : Order) → levelAfter k o (m .level) ≡ worstCase k m o .level
+level-worst k m (Drive c) = refl
+level-worst k m Brake = refl
+
+-- a report leaves the mark
+still-held : (n : Option ℕ) → isHeld (Option·map suc n) ≡ isHeld n
+still-held none = refl
+still-held (some n) = refl
+
+-- ---- an accepted act
+
+-- what an act gives, of a train whose end is then `end`
+abbrev pub Within : Settings → ℕ → Values → Type 0
+Within σ end (Entered full growth e) = ⊥
+Within σ end (Ordered o r) = (orderCap o ≤ σ .limits .traction) × (r ≤ end)
+Within σ end (Extended e repeat) = e ≤ end
+Within σ end Zeros = Unit {0}
+
+module _ (σ : Settings) (limit : Limit) (x : Told) (steady : Steady σ limit x) where
+  abbrev pub rulingOn : Act → Ruling
+  rulingOn = decide σ limit (recordOf x)
+
+  abbrev pub afterAct : Act → Told
+  afterAct a = record { entry = x .entry; figures = x .figures; now = toldAct (x .figures) (x .now) (numbersOf (Accepted (rulingOn a .gives))) a }
+
+  pub record Acted (a : Act) : Type 0 where
+    pub told : recordOf (afterAct a) ≡ rulingOn a .after
+    pub keeps : Steady σ limit (afterAct a)
+    -- the head never goes back: the train behind relies on it
+    pub onward : x .now .head ≤ afterAct a .now .head
+    pub within : Within σ (rulingOn a .after .authority .end) (rulingOn a .gives)
+
+  -- ---- a report
+
+  slowing-report : (r : Reading) → allowed (recordOf x) r ≡ true → (o : Option ℕ) → x .now .held ≡ o
+      → Slowing σ (reported σ (recordOf x) r) (Option·map suc o)
+  unfolding reported recordOf
+  slowing-report r e none held = tt
+  slowing-report r e (some zero) held =
+      let m = motionAfter (recordOf x) r in
+      (held-brakes σ (recordOf x) m (rw held), slowed-start (x .figures) (σ .limits .ceiling) m (guarded-report σ limit (recordOf x) (steady .guarded) r e .within .speed))
+  slowing-report r e (some (suc n)) held =
+      let k = x .figures in
+      let m = motionAfter (recordOf x) r in
+      let (brake, slowed) : Slowing σ (recordOf x) (some (suc n)) = subst (Slowing σ (recordOf x)) held (steady .slowing) in
+      let braked = subst (λ (o : Order). NoWorse m (worstCase k (recordOf x .motion) o)) brake (allowed-no-worse (recordOf x) r e) in
+      (held-brakes σ (recordOf x) m (rw held), slowed-brake k (σ .limits .ceiling) n (recordOf x .motion) m (steady .guarded .figures) slowed braked)
+
+  -- ---- where motion and order stay
+
+  abbrev stays : Authority → Option ℕ → Told
+  stays a n = record { entry = x .entry; figures = x .figures; now = still (x .now) a n }
+
+  steady-still : (a : Authority) (n : Option ℕ) → InLimit limit (a .end) → reachOf (recordOf x) ≤ a .end → Slowing σ (recordOf x) n → Steady σ limit (stays a n)
+  unfolding recordOf
+  steady-still a n limited reach slow = record { guarded = guarded-still σ limit (recordOf x) (steady .guarded) a _ limited reach; slowing = go n slow }
+    where
+      go : (n : Option ℕ) → Slowing σ (recordOf x) n → Slowing σ (recordOf (stays a n)) n
+      go none slow = tt
+      go (some zero) slow = tt
+      go (some (suc n)) slow = slow
+
+  -- held already, a train goes on slowing; held now, it has had no report
+  slowing-hold : (n : Option ℕ) → Slowing σ (recordOf x) n → Slowing σ (recordOf x) (some (Option·getD n 0))
+  slowing-hold none slow = tt
+  slowing-hold (some n) slow = slow
+
+  -- b says whether an extension is a repeat
+  extended-end : (q : Asked) (b : Bool) → not b && not (withinLimit limit (x .now .authority .end + q .length)) ≡ false
+      → let a = cond b (x .now .authority) (granted (x .now .authority) q) in InLimit limit (a .end) × (x .now .authority .end ≤ a .end)
+  unfolding recordOf
+  extended-end q true e = (steady .guarded .end-in-limit, le-refl _)
+  extended-end q false e = (limit-tested limit _ (not-false _ e), omega arith)
+
+  -- ---- any act
+
+  pub act-kept : (a : Act) → firstOf (rulingOn a .checks) ≡ none → Acted a
+  unfolding recordOf toldAct reported extended isRepeat
+  act-kept (Report r) e =
+      let allows = report-allowed σ (recordOf x) r (passed _ _ _ e .0) in
+      let same : recordOf (afterAct (Report r)) ≡ reported σ (recordOf x) r = rw (order-told, level-worst (x .figures) (recordOf x .motion) (x .now .order), still-held (x .now .held)) in
+      let g = guarded-report σ limit (recordOf x) (steady .guarded) r allows in
+      record {
+        told = same;
+        keeps = record { guarded = rw same g; slowing = rw same (slowing-report r allows (x .now .held) refl) };
+        onward = allowed-head (recordOf x) r allows;
+        within = (g .within .cap, g .reach-in-end);
+      }
+  act-kept (Extend q) e =
+      let last = passed _ _ _ (passed _ _ _ (passed _ _ _ (passed _ _ _ e .1) .1) .1) in
+      let a = longer (x .now .authority) q in
+      let (limited, more) = extended-end q (eqb (q .number) (x .now .authority .number)) (last .0) in
+      let reach = steady .guarded .reach-in-end in
+      record {
+        told = by-test (eqb (q .number) (x .now .authority .number)) (λ e. rw e) (λ e. rw e);
+        keeps = steady-still a (x .now .held) limited (omega arith) (steady .slowing);
+        onward = le-refl _;
+        within = le-refl _;
+      }
+  act-kept (CallBack p) e =
+      let (low, high) = call-back-allowed (recordOf x) p (passed _ _ _ e .0) in
+      record {
+        told = refl;
+        keeps = steady-still (endingAt (x .now .authority) p) (x .now .held) (limit-below limit high (steady .guarded .end-in-limit)) low (steady .slowing);
+        onward = le-refl _;
+        within = tt;
+      }
+  act-kept Hold e =
+      let g = steady .guarded in
+      record {
+        told = refl;
+        keeps = steady-still (x .now .authority) (some (Option·getD (x .now .held) 0)) (g .end-in-limit) (g .reach-in-end) (slowing-hold (x .now .held) (steady .slowing));
+        onward = le-refl _;
+        within = tt;
+      }
+  act-kept Lift e =
+      let g = steady .guarded in
+      record { told = refl; keeps = steady-still (x .now .authority) none (g .end-in-limit) (g .reach-in-end) tt; onward = le-refl _; within = tt }

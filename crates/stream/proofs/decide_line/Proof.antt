@@ -1,0 +1,45 @@
+-- `stream::decide_line` meets its contract.
+-- Assumes nothing.
+use mathlib.Core.Path.{sym, ap, _∙_}
+use Rattle.stream.specs.Session.{lineDecision}
+use borrow.Author.Needs.{needs}
+use Rattle.stream.proofs.decide_line.Statement.{statement}
+use Rattle.stream.proofs.decide_line.Tie as tie
+
+read-line-requires : tie.Need-read-line-requires
+read-line-requires c κs = search needs
+
+enum-known-read : tie.Need-enum-known-read
+enum-known-read c = search needs
+
+decide-request-requires : tie.Need-decide-request-requires
+decide-request-requires c κs = search needs
+
+enum-told : tie.Need-enum-told
+enum-told c = search needs
+
+refuse-requires : tie.Need-refuse-requires
+refuse-requires c κs = search needs
+
+returns : tie.Need-returns
+returns c =
+    let r = c .before .before in
+    c .decide-request .ensures ∙ ap (lineDecision _) (sym (r .read .given .1) ∙ r .before .before .read-line .ensures)
+
+returns-2 : tie.Need-returns-2
+unfolding lineDecision
+returns-2 c =
+    let r = c .before in
+    c .refuse .ensures ∙ ap (lineDecision _) (sym (r .enum-told .given .1) ∙ r .before .before .read-line .ensures)
+
+pub decide-line-spec : {M : Type 1} → statement M
+decide-line-spec =
+    tie.close
+    (tie.spec
+    read-line-requires
+    enum-known-read
+    decide-request-requires
+    enum-told
+    refuse-requires
+    returns
+    returns-2)
