@@ -1,6 +1,6 @@
 // The session's lines: an input line to what it asks, an answer to its bytes. Document 01, "The session program".
 ghost use mathlib.Core.Path.{_≡_};
-ghost use Prim.Native.Nat.{_+_, _≤_, _<_};
+ghost use Prim.Native.Nat.{_+_, _/_, _≤_, _<_};
 ghost use lib.ListN.{length};
 ghost use lib.Seq.{paste};
 ghost use Rattle.wire.specs.Format.{digit as digitAfter, column as columnAfter, soFar, fieldOf, callColumns, callWidth, numbersIn, rowNumbers, lineRead, digitOf, text, roomAt, rendered};
@@ -147,11 +147,12 @@ pub fn read_line(line: &[u8]) -> RequestRead
 
 // ---- writing
 
-// The last digit of n.
-fn digit_of(n: u64) -> u8
+// The last digit of n, where a tenth of n is known.
+fn last_digit(n: u64, tenth: u64) -> u8
+    requires { ⌜ tenth ≡ n / 10 ⌝ }
     ensures { λ r. ⌜ r ≡ digitOf n ⌝ }
 {
-    48 + (n % 10) as u8
+    48 + (n - 10 * tenth) as u8
 }
 
 // n right-justified in so many columns of out, from place `at` on.
@@ -160,12 +161,13 @@ fn put(out: &mut [u8], at: usize, width: usize, n: u64)
     ensures { λ _. ⌜ now (out .exit) ≡ paste (now (out .entry)) at (text width n) width ⌝ }
 {
     let mut i = width - 1;
-    out[at + i] = digit_of(n);
     let mut rest = n / 10;
+    out[at + i] = last_digit(n, rest);
     while 0 < i && 0 < rest {
         i -= 1;
-        out[at + i] = digit_of(rest);
-        rest = rest / 10;
+        let tenth = rest / 10;
+        out[at + i] = last_digit(rest, tenth);
+        rest = tenth;
     }
     while 0 < i {
         i -= 1;

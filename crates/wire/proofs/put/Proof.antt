@@ -32,8 +32,8 @@ long s = s .loop .inv .size ∙ length-set (s .before .before .before .args .out
 sub-i : tie.Need-sub-i Inv-loop μ-loop Inv-loop2 μ-loop2
 sub-i c = omega arith
 
-digit-of-requires : tie.Need-digit-of-requires Inv-loop μ-loop Inv-loop2 μ-loop2
-digit-of-requires c κs = search needs
+last-digit-requires : tie.Need-last-digit-requires Inv-loop μ-loop Inv-loop2 μ-loop2
+last-digit-requires c κs = search needs
 
 add-out : tie.Need-add-out Inv-loop μ-loop Inv-loop2 μ-loop2
 add-out c = omega arith
@@ -47,8 +47,8 @@ loop-holds c = record { within = simp length-set (omega arith); size = refl; sam
 sub-i-2 : tie.Need-sub-i-2 Inv-loop μ-loop Inv-loop2 μ-loop2
 sub-i-2 c = omega arith
 
-digit-of-requires-2 : tie.Need-digit-of-requires-2 Inv-loop μ-loop Inv-loop2 μ-loop2
-digit-of-requires-2 c κs = search needs
+last-digit-requires-2 : tie.Need-last-digit-requires-2 Inv-loop μ-loop Inv-loop2 μ-loop2
+last-digit-requires-2 c κs = search needs
 
 add-out-2 : tie.Need-add-out-2 Inv-loop μ-loop Inv-loop2 μ-loop2
 add-out-2 c = omega (arith, long (c .before .before .before))
@@ -63,7 +63,7 @@ loop-again : tie.Need-loop-again Inv-loop μ-loop Inv-loop2 μ-loop2
 loop-again c =
     let s = c .before .before .before in
     let more = ne-eqb (s .loop .rest) 0 (λ e. omega (arith, ltb-true)) in
-    putting-next (s .loop .inv) (omega arith) (rw more (c .digit-of2 .ensures))
+    putting-next (s .loop .inv) (omega arith) (rw more (c .last-digit2 .ensures))
 
 loop2-holds : tie.Need-loop2-holds Inv-loop μ-loop Inv-loop2 μ-loop2
 loop2-holds c = record { within = omega arith; size = refl; same = refl }
@@ -97,7 +97,7 @@ returns c =
     let none = put-none (s .loop .out) at (s .loop .i) (s .loop .rest) (λ h. ⊎-elim (λ w. omega (arith, ltb-false)) (λ w. omega arith) (b .before .loop-test .came)) in
     let end : b .loop2 .i ≡ 0 = omega arith in
     sym (ap (λ (w : ℕ). paste l at (text w (a .n)) w) last
-    ∙ put-last l at (a .width - 1) (a .n) _ (omega arith) (s .before .digit-of .ensures)
+    ∙ put-last l at (a .width - 1) (a .n) _ (omega arith) (s .before .last-digit .ensures)
     ∙ s .loop .inv .same ∙ none ∙ b .loop2 .inv .same ∙ ap (λ (i : ℕ). filled (b .loop2 .out) at i 0) end ∙ put-all (b .loop2 .out) at 0)
 
 pub put-spec : {M : Type 1} → statement M
@@ -109,12 +109,12 @@ put-spec =
     Inv-loop2
     μ-loop2
     sub-i
-    digit-of-requires
+    last-digit-requires
     add-out
     slice-write-out
     loop-holds
     sub-i-2
-    digit-of-requires-2
+    last-digit-requires-2
     add-out-2
     slice-write-out-2
     loop-less
