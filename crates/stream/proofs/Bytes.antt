@@ -1,13 +1,13 @@
 -- Laws of the bytes that are kept and written. Assumes nothing.
-use Prim.Native.Nat.{ℕ, zero, suc, _+_, _≤_, _<_}
+use Prim.Native.Nat.{ℕ, zero, suc, min, _+_, _≤_, _<_}
 use native.Mathlib.Numerals.{add-one}
 use native.Mathlib.Omega.{arith}
 use mathlib.Core.Path.{_≡_, refl, sym, ap, _∙_}
 use mathlib.Core.List.{List, [], _∷_, _++_}
-use lib.ListN.{length, take, drop, set, length-append}
-use lib.Seq.{take-suc-set, take-all, take-at, length-take-le, getD-at, drop-drop, paste, paste-suc, length-paste, take-paste, drop-paste}
+use lib.ListN.{length, take, drop, set, length-take, length-append}
+use lib.Seq.{take-suc-set, take-all, take-take, take-at, getD-at, drop-drop, paste, paste-suc, length-paste, take-paste, drop-paste}
 use lib.Dec.{leb}
-use borrow.Author.Tests.{le-leb, lt-leb}
+use borrow.Author.Tests.{le-leb, lt-leb, leb-true, leb-false}
 use Rattle.logic.proofs.Tests.{by-test}
 use Rattle.calls.specs.declared.Numbers.{Numbers}
 use Rattle.calls.specs.Answers.{numbers}
@@ -16,18 +16,20 @@ use Rattle.wire.proofs.RoundTrip.{answer-long}
 use Rattle.stream.specs.declared.Stream.{Stream}
 use Rattle.stream.specs.Input.{outputLine, lastAnswer, keptWidth, kept, outputWidth, over, lastWritten}
 
--- one byte more is kept
-pub keep-more : (l : List ℕ) (n b : ℕ) → length l ≡ keptWidth → n < keptWidth → take (n + 1) (set l n b) ≡ kept (take n l ++ (b ∷ []))
-keep-more l n b h k =
-    let e : length (take n l) ≡ n = length-take-le n l (omega arith) in
-    let s : length (take n l ++ (b ∷ [])) ≤ keptWidth = simp (length-append) (omega arith) in
-    rw (add-one n, take-suc-set l n b (omega arith)) (sym (take-all keptWidth (take n l ++ (b ∷ [])) s))
+-- so many of the first n bytes are kept
+pub keep-first : (l : List ℕ) (n r : ℕ) → r ≡ min n keptWidth → take r l ≡ kept (take n l)
+keep-first l n r e =
+    by-test (leb n keptWidth)
+    (λ t.
+    let all : r ≡ n = omega (arith, leb-true) in
+    rw all (sym (take-all keptWidth (take n l) (omega (arith, leb-true, length-take n l)))))
+    (λ t.
+    let some : r ≡ keptWidth = omega (arith, leb-false) in
+    rw some (sym (take-take keptWidth n l (omega (arith, leb-false)))))
 
--- as many as are kept are there already
-pub keep-full : (l : List ℕ) (n b : ℕ) → length l ≡ keptWidth → keptWidth ≤ n → take n l ≡ kept (take n l ++ (b ∷ []))
-keep-full l n b h k =
-    let t : take n l ≡ l = take-all n l (omega arith) in
-    rw t (sym (take-at l (b ∷ []) keptWidth h))
+-- one byte more, as far as it is kept
+pub keep-more : (l : List ℕ) (n r b : ℕ) → n < length l → r ≡ min (n + 1) keptWidth → take r (set l n b) ≡ kept (take n l ++ (b ∷ []))
+keep-more l n r b h e = rw (← take-suc-set l n b h, ← add-one n) (keep-first (set l n b) (n + 1) r e)
 
 -- ---- an output line in its place
 
@@ -68,7 +70,7 @@ output-first out a =
     let long = output-long a in
     ap (λ (l : List ℕ). l ++ drop outputWidth out) (take-all outputWidth (outputLine a) (omega arith)) ∙ ap (λ (n : ℕ). outputLine a ++ drop n out) (sym long)
 
-some-answer : (bytes : List ℕ) (count : ℕ) → length bytes ≡ keptWidth → (count ≡ 0 → ⊥) → lastAnswer (take count bytes) ≡ outputLine (numbers 1 0 0 0)
+some-answer : (bytes : List ℕ) (count : ℕ) → 0 < length bytes → (count ≡ 0 → ⊥) → lastAnswer (take count bytes) ≡ outputLine (numbers 1 0 0 0)
 unfolding lastAnswer
 some-answer [] count l n = absurd (omega arith)
 some-answer (b ∷ bytes) zero l n = absurd (n refl)
@@ -85,7 +87,7 @@ module _ (x : Stream) (out : List ℕ) where
   no-room h = rw (lt-leb outputWidth (length out) h) refl
 
   -- a line has begun
-  pub line-begun : outputWidth ≤ length out → (x .count ≡ 0 → ⊥) → length (x .bytes) ≡ keptWidth → lastWritten x out ≡ outputLine (numbers 1 0 0 0)
+  pub line-begun : outputWidth ≤ length out → (x .count ≡ 0 → ⊥) → 0 < length (x .bytes) → lastWritten x out ≡ outputLine (numbers 1 0 0 0)
   line-begun h n l = rw (le-leb outputWidth (length out) h) (some-answer (x .bytes) (x .count) l n)
 
 -- what is written over the first bytes is within the buffer

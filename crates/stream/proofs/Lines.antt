@@ -26,7 +26,7 @@ use Rattle.stream.specs.declared.Stream.{Stream}
 use Rattle.stream.specs.declared.Fed.{Fed}
 use Rattle.stream.specs.Session.{outOfTurn, lineDecision, replied, answered}
 use Rattle.stream.specs.Input.{lines, rest, after, outputLine, answers, begun, keptWidth, kept, Taken, TakenOrLeft, FeedPromise}
-use Rattle.stream.proofs.Bytes.{over-within}
+use Rattle.stream.proofs.Bytes.{keep-first, over-within}
 
 -- Where a session stands once it has taken bytes in: the state, the line that has begun, and what has been written.
 pub record Standing : Type 0 where
@@ -139,16 +139,15 @@ module _ (s : Session) (g w piece : List ℕ) (i : ℕ) (more : i < length piece
 
 -- the whole piece is taken: out holds the first `at` bytes as written and the others as before
 module _ (x : Stream) (piece before out bytes : List ℕ) (s : Session) (count at : ℕ) where
-  pub piece-taken : at ≤ length out → length bytes ≡ keptWidth → drop at out ≡ drop at before
+  pub piece-taken : at ≤ length out → count ≤ keptWidth → drop at out ≡ drop at before
       → standing (x .session) (begun x) [] piece ≡ record { session = s; begins = kept (take count bytes); written = take at out }
       → Taken x piece before (record { taken = true; stream = record { session = s; bytes = bytes; count = count }; count = at }) out
-  piece-taken room long same e =
+  piece-taken room bounded same e =
       let w : answers (x .session) (lines (begun x) piece) ≡ take at out = ap (λ (z : Standing). z .written) e in
       let n : at ≡ length (answers (x .session) (lines (begun x) piece)) = sym (ap length w ∙ length-take-le at out room) in
-      let all : kept (take count bytes) ≡ take count bytes = take-all keptWidth (take count bytes) (omega (arith, length-take count bytes)) in
       record {
         session = sym (ap (λ (z : Standing). z .session) e);
-        begins = sym (ap (λ (z : Standing). z .begins) e ∙ all);
+        begins = keep-first bytes count count (omega arith) ∙ sym (ap (λ (z : Standing). z .begins) e);
         written = sym (take-append-drop at out) ∙ ap (λ (l : List ℕ). l ++ drop at out) (sym w) ∙ ap (λ (l : List ℕ). answers (x .session) (lines (begun x) piece) ++ l) same
             ∙ ap (λ (k : ℕ). answers (x .session) (lines (begun x) piece) ++ drop k before) n;
         count = n;

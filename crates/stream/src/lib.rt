@@ -2,7 +2,7 @@
 ghost use mathlib.Core.Path.{_≡_};
 ghost use mathlib.Core.Bool.{true};
 ghost use mathlib.Core.List.{[], _∷_, _++_};
-ghost use Prim.Native.Nat.{_+_, _*_, _≤_};
+ghost use Prim.Native.Nat.{min, _+_, _*_, _≤_};
 ghost use lib.ListN.{length, take};
 ghost use lib.Seq.{paste};
 ghost use Rattle.wire.specs.Format.{lineRead};
@@ -19,6 +19,9 @@ use table::Table;
 
 // The bytes that are kept of a line. One more than a call has: enough to tell that the line is too long.
 const KEPT_WIDTH: usize = wire::CALL_WIDTH + 1;
+
+// Room for them and for one byte more: a byte that is not kept is written there, so that no byte needs a test before it is stored.
+const ROOM: usize = KEPT_WIDTH + 1;
 
 // An output line with its line feed.
 pub const OUTPUT_WIDTH: usize = wire::ANSWER_WIDTH + 1;
@@ -38,7 +41,7 @@ pub struct Reply {
 // A session in the middle of its input: the first bytes of the line that has begun.
 pub struct Stream {
     pub session: Session,
-    pub bytes: [u8; KEPT_WIDTH],
+    pub bytes: [u8; ROOM],
     pub count: usize,
 }
 
@@ -112,31 +115,31 @@ pub fn start() -> Stream
             opened: false,
             table: line::no_table(),
         },
-        bytes: [0u8; KEPT_WIDTH],
+        bytes: [0u8; ROOM],
         count: 0,
     }
 }
 
+// How many of the first n bytes of a line are kept.
+fn kept_count(n: usize) -> usize
+    ensures { λ r. ⌜ r ≡ min n keptWidth ⌝ }
+{
+    if n < KEPT_WIDTH {
+        return n;
+    }
+    KEPT_WIDTH
+}
+
 // One byte more of a line.
 fn push(bytes: &mut [u8], count: usize, b: u8) -> usize
-    requires { ⌜ length (now bytes) ≡ keptWidth ⌝ }
-    ensures { λ r. ⌜ take r (now (bytes .exit)) ≡ kept (take count (now (bytes .entry)) ++ (b ∷ [])) ⌝ }
+    requires { ⌜ (length (now bytes) ≡ keptWidth + 1) × (count ≤ keptWidth) ⌝ }
+    ensures { λ r. ⌜ (take r (now (bytes .exit)) ≡ kept (take count (now (bytes .entry)) ++ (b ∷ []))) × (r ≤ keptWidth) ⌝ }
 {
+    bytes[count] = b;
     if count < KEPT_WIDTH {
-        bytes[count] = b;
         return count + 1;
     }
     count
-}
-
-// Decides the line in the first `count` bytes.
-fn decide_begun(opened: bool, t: Table, bytes: &[u8], count: usize) -> Decision
-    ensures { λ d. ⌜ d ≡ lineDecision (session opened t) (lineRead (take count (now (bytes .entry)))) ⌝ }
-{
-    if count < bytes.len() {
-        return decide_line(opened, t, &bytes[..count]);
-    }
-    decide_line(opened, t, bytes)
 }
 
 // Writes the output line of an answer into out, from place `at` on.
@@ -157,7 +160,7 @@ fn feed_all(x: Stream, piece: &[u8], out: &mut [u8]) -> Fed
     let mut opened = x.session.opened;
     let mut table = x.session.table;
     let mut bytes = x.bytes;
-    let mut count = x.count;
+    let mut count = kept_count(x.count);
     let mut at: usize = 0;
     let mut i: usize = 0;
     while i < piece.len() {
@@ -167,7 +170,7 @@ fn feed_all(x: Stream, piece: &[u8], out: &mut [u8]) -> Fed
             count = push(&mut bytes, count, b);
             continue;
         }
-        let d = decide_begun(opened, table, &bytes, count);
+        let d = decide_line(opened, table, &bytes[..count]);
         let a = d.answer;
         let c = d.change;
         let n = calls::numbers_of(a);

@@ -4,7 +4,7 @@ use Prim.Native.Nat.{ℕ, _+_, _-_, _*_, _≤_, _<_}
 use native.Mathlib.Omega.{arith}
 use mathlib.Core.Path.{_≡_, refl, sym, ap, subst, _∙_}
 use mathlib.Core.List.{List, []}
-use lib.ListN.{length, take, drop, length-set}
+use lib.ListN.{length, take, drop, length-take, length-set}
 use lib.Seq.{drop-length}
 use borrow.Author.Needs.{needs}
 use Rattle.table.specs.declared.Table.{Table}
@@ -12,9 +12,9 @@ use Rattle.table.specs.Table.{places, changed, Fits}
 use Rattle.table.proofs.Places.{long}
 use Rattle.stream.specs.declared.Session.{Session}
 use Rattle.stream.specs.Session.{session, replied}
-use Rattle.stream.specs.Input.{keptWidth, outputWidth}
-use Rattle.stream.proofs.Bytes.{output-all, output-front, output-back, same-further}
-use Rattle.stream.proofs.Lines.{Standing, standing, standing-end, line-fits, byte-taken, line-taken, piece-taken}
+use Rattle.stream.specs.Input.{begun, keptWidth, outputWidth}
+use Rattle.stream.proofs.Bytes.{keep-first, output-all, output-front, output-back, same-further}
+use Rattle.stream.proofs.Lines.{Standing, standing, standing-kept, standing-end, line-fits, byte-taken, line-taken, piece-taken}
 use Rattle.stream.proofs.feed_all.Statement.{statement}
 use Rattle.stream.proofs.feed_all.Tie as tie
 
@@ -24,7 +24,8 @@ record Feeding (piece before : List ℕ) (from : Standing) (out : List ℕ) (s :
   within : i ≤ length piece
   room : at ≤ outputWidth * i
   size : length out ≡ length before
-  line : length bytes ≡ keptWidth
+  line : length bytes ≡ keptWidth + 1
+  bounded : count ≤ keptWidth
   trains : length (s .table .trains) ≡ places
   others : drop at out ≡ drop at before
   stands : from ≡ standing s (take count bytes) (take at out) (drop i piece)
@@ -36,8 +37,15 @@ Inv-loop piece out₀ opened₀ table₀ bytes₀ count₀ at₀ i₀ out opened
 abbrev μ-loop : tie.MeasureT-loop
 μ-loop piece out₀ opened₀ table₀ bytes₀ count₀ at₀ i₀ out opened table bytes count at i = length piece - i
 
+-- where the function begins
+abbrev entry : tie.At-loop Inv-loop μ-loop → tie.Start Inv-loop μ-loop
+entry k = k .before .before .before .before .before .before
+
 size : (c : tie.Start Inv-loop μ-loop) → length (c .args .x .session .table .trains) ≡ 32
 size c = search (needs, long)
+
+kept-count-requires : tie.Need-kept-count-requires Inv-loop μ-loop
+kept-count-requires c κs = search needs
 
 loop-holds : tie.Need-loop-holds Inv-loop μ-loop
 loop-holds c =
@@ -46,7 +54,8 @@ loop-holds c =
       room = omega arith;
       size = refl;
       line = search needs;
-      trains = size (c .before .before .before .before);
+      bounded = omega arith;
+      trains = size (c .before .before .before .before .before);
       others = refl;
       stands = refl;
     }
@@ -69,25 +78,31 @@ loop-less c = omega arith
 loop-again : tie.Need-loop-again Inv-loop μ-loop
 loop-again c =
     let k = c .before .before .before .before .before .before in
-    let a = k .before .before .before .before .before .args in
+    let a = entry k .args in
     let more = c .before .before .before .before .before .loop-test .taken in
     record {
       within = omega arith;
       room = omega arith;
       size = k .loop .inv .size;
       line = search needs;
+      bounded = c .before .push .ensures .1;
       trains = k .loop .inv .trains;
       others = k .loop .inv .others;
       stands =
           k .loop .inv .stands
-          ∙ byte-taken (session (k .loop .opened) (k .loop .table)) (take (k .loop .count) (k .loop .bytes)) (take (k .loop .at) (k .loop .out)) (a .piece .now) (k .loop .i) more _ (c .before .before .before .if1 .taken) (c .before .push .ensures);
+          ∙ byte-taken (session (k .loop .opened) (k .loop .table)) (take (k .loop .count) (k .loop .bytes)) (take (k .loop .at) (k .loop .out)) (a .piece .now) (k .loop .i) more _ (c .before .before .before .if1 .taken) (c .before .push .ensures .0);
     }
 
-slice-aggregate-decide-begun : tie.Need-slice-aggregate-decide-begun Inv-loop μ-loop
-slice-aggregate-decide-begun c = search needs
+array-share-prefix-bytes : tie.Need-array-share-prefix-bytes Inv-loop μ-loop
+array-share-prefix-bytes c = search needs
 
-decide-begun-requires : tie.Need-decide-begun-requires Inv-loop μ-loop
-decide-begun-requires c κs = search needs
+slice-aggregate-decide-line : tie.Need-slice-aggregate-decide-line Inv-loop μ-loop
+slice-aggregate-decide-line c =
+    let k = c .before .before .before .before in
+    omega (arith, length-take (k .loop .count) (k .loop .bytes))
+
+decide-line-requires : tie.Need-decide-line-requires Inv-loop μ-loop
+decide-line-requires c κs = search needs
 
 numbers-of-requires : tie.Need-numbers-of-requires Inv-loop μ-loop
 numbers-of-requires c κs = search needs
@@ -103,49 +118,50 @@ either-requires c κs = search needs
 
 -- ---- a line feed: what every arm of the match stands on
 
-abbrev decided : tie.After-either Inv-loop μ-loop → tie.After-decide-begun Inv-loop μ-loop
+abbrev decided : tie.After-either Inv-loop μ-loop → tie.After-decide-line Inv-loop μ-loop
 decided e = e .before .before .before .before .before .before .before
 
-abbrev turn : tie.After-decide-begun Inv-loop μ-loop → tie.In-loop Inv-loop μ-loop
+abbrev turn : tie.After-decide-line Inv-loop μ-loop → tie.In-loop Inv-loop μ-loop
 turn d = d .before .before .before .before
 
-abbrev tableThen : tie.After-decide-begun Inv-loop μ-loop → Table
+abbrev tableThen : tie.After-decide-line Inv-loop μ-loop → Table
 tableThen d = turn d .before .loop .table
 
 -- the table has the place that the change needs
-fits : (d : tie.After-decide-begun Inv-loop μ-loop) → Fits (tableThen d) (d .decide-begun .result .change)
+fits : (d : tie.After-decide-line Inv-loop μ-loop) → Fits (tableThen d) (d .decide-line .result .change)
 fits d =
     let k = turn d .before in
-    line-fits (session (k .loop .opened) (k .loop .table)) (k .loop .inv .trains) _ (d .decide-begun .result) (d .decide-begun .ensures)
+    line-fits (session (k .loop .opened) (k .loop .table)) (k .loop .inv .trains) _ (d .decide-line .result) (d .decide-line .ensures)
 
 -- the answer is written, and u is the table with the change
-line-fed : (e : tie.After-either Inv-loop μ-loop) (u : Table) → u ≡ changed (tableThen (decided e)) (decided e .decide-begun .result .change) → length (u .trains) ≡ places
+line-fed : (e : tie.After-either Inv-loop μ-loop) (u : Table) → u ≡ changed (tableThen (decided e)) (decided e .decide-line .result .change) → length (u .trains) ≡ places
     → let p = e .before .before .before .before in
     let k = turn (decided e) .before in
-    let a = k .before .before .before .before .before .args in
-    Inv-loop (a .piece .now) (a .out .now) (a .x .session .opened) (a .x .session .table) (a .x .bytes) (a .x .count) 0 0 (p .put-line .last .0) (e .either .result) u (k .loop .bytes) 0 (k .loop .at + outputWidth) (k .loop .i + 1)
+    let a = entry k .args in
+    Inv-loop (a .piece .now) (a .out .now) (a .x .session .opened) (a .x .session .table) (a .x .bytes) (k .before .kept-count .result) 0 0 (p .put-line .last .0) (e .either .result) u (k .loop .bytes) 0 (k .loop .at + outputWidth) (k .loop .i + 1)
 line-fed e u made all =
     let p = e .before .before .before .before in
     let n = p .before .before in
     let d = n .before in
     let k = turn d .before in
-    let a = k .before .before .before .before .before .args in
+    let a = entry k .args in
     let at = k .loop .at in
     let out = k .loop .out in
     let s = session (k .loop .opened) (k .loop .table) in
-    let room : at + outputWidth ≤ length out = omega arith in
-    let same : replied s (d .decide-begun .result) .session ≡ session (e .either .result) u = rw (e .either .ensures, n .numbers-of .ensures, made) in
+    let room : at + outputWidth ≤ length out = omega (arith, entry k .pre) in
+    let same : replied s (d .decide-line .result) .session ≡ session (e .either .result) u = rw (e .either .ensures, n .numbers-of .ensures, made) in
     record {
       within = omega arith;
       room = omega arith;
       size = ap length (p .put-line .ensures) ∙ output-all out at (n .numbers-of .result) room ∙ k .loop .inv .size;
       line = k .loop .inv .line;
+      bounded = omega arith;
       trains = all;
       others = ap (drop (at + outputWidth)) (p .put-line .ensures) ∙ output-back out at (n .numbers-of .result) room ∙ same-further outputWidth at out (a .out .now) (k .loop .inv .others);
       stands =
           k .loop .inv .stands
-          ∙ line-taken s (take (k .loop .count) (k .loop .bytes)) (take at out) (a .piece .now) (k .loop .i) (turn d .loop-test .taken) (d .decide-begun .result) _
-          (d .before .before .if1 .left) (d .decide-begun .ensures)
+          ∙ line-taken s (take (k .loop .count) (k .loop .bytes)) (take at out) (a .piece .now) (k .loop .i) (turn d .loop-test .taken) (d .decide-line .result) _
+          (d .before .before .if1 .left) (d .decide-line .ensures)
           (ap (take (at + outputWidth)) (p .put-line .ensures) ∙ output-front out at (n .numbers-of .result) room ∙ rw (n .numbers-of .ensures))
           ∙ ap (λ (z : Session). standing z [] (take (at + outputWidth) (p .put-line .last .0)) (drop (k .loop .i + 1) (a .piece .now))) same;
     }
@@ -201,16 +217,18 @@ same-length c = c .before .loop .inv .size
 returns : tie.Need-returns Inv-loop μ-loop
 returns c =
     let k = c .before in
-    let a = k .before .before .before .before .before .args in
+    let a = entry k .args in
     let piece = a .piece .now in
     let s = session (k .loop .opened) (k .loop .table) in
     let end : k .loop .i ≡ length piece = omega arith in
-    let none : drop (k .loop .i) piece ≡ [] = rw end (drop-length piece) in
+    let none : drop (k .loop .i) piece ≡ [] = ap (λ (n : ℕ). drop n piece) end ∙ drop-length piece in
     let taken =
-    k .loop .inv .stands
+    sym (standing-kept (a .x .session) (begun (a .x)) [] piece)
+    ∙ ap (λ (l : List ℕ). standing (a .x .session) l [] piece) (sym (keep-first (a .x .bytes) (a .x .count) (k .before .kept-count .result) (k .before .kept-count .ensures)))
+    ∙ k .loop .inv .stands
     ∙ ap (standing s (take (k .loop .count) (k .loop .bytes)) (take (k .loop .at) (k .loop .out))) none
     ∙ standing-end s (take (k .loop .count) (k .loop .bytes)) (take (k .loop .at) (k .loop .out)) in
-    (refl, piece-taken (a .x) piece (a .out .now) (k .loop .out) (k .loop .bytes) s (k .loop .count) (k .loop .at) (omega arith) (k .loop .inv .line) (k .loop .inv .others) taken)
+    (refl, piece-taken (a .x) piece (a .out .now) (k .loop .out) (k .loop .bytes) s (k .loop .count) (k .loop .at) (omega arith) (k .loop .inv .bounded) (k .loop .inv .others) taken)
 
 pub feed-all-spec : {M : Type 1} → statement M
 feed-all-spec =
@@ -218,6 +236,7 @@ feed-all-spec =
     (tie.spec
     Inv-loop
     μ-loop
+    kept-count-requires
     loop-holds
     shared-slice-read-b
     add-i
@@ -225,8 +244,9 @@ feed-all-spec =
     push-requires
     loop-less
     loop-again
-    slice-aggregate-decide-begun
-    decide-begun-requires
+    array-share-prefix-bytes
+    slice-aggregate-decide-line
+    decide-line-requires
     numbers-of-requires
     put-line-requires
     add-at
