@@ -8,12 +8,6 @@ use Rattle.brake.proofs.Consist.{time-fits}
 use Rattle.brake.proofs.application_time.Statement.{statement}
 use Rattle.brake.proofs.application_time.Tie as tie
 
-mul-result : tie.Need-mul-result
-mul-result c = search needs
-
-add-result : tie.Need-add-result
-add-result c = search needs
-
 -- the whole sum fits, and so does each part of it
 mul-result-2 : tie.Need-mul-result-2
 unfolding applicationTime
@@ -33,4 +27,4 @@ returns c = refl
 
 pub application-time-spec : {M : Type 1} → statement M
 application-time-spec =
-    tie.close (tie.spec mul-result add-result mul-result-2 mul-result-3 add-result-2 returns)
+    tie.close (tie.spec (λ c. search needs) (λ c. search needs) mul-result-2 mul-result-3 add-result-2 returns)

@@ -8,9 +8,6 @@ use Rattle.brake.proofs.Consist.{time-fits}
 use Rattle.brake.proofs.brake_cycles.Statement.{statement}
 use Rattle.brake.proofs.brake_cycles.Tie as tie
 
-application-time-requires : tie.Need-application-time-requires
-application-time-requires c κs = search needs
-
 add-result : tie.Need-add-result
 add-result c = omega (arith, c .application-time .ensures, time-fits (c .before .args .length) (omega arith))
 
@@ -19,4 +16,4 @@ unfolding brakeCycles applicationCycles ceilDiv
 returns c = rw (c .application-time .ensures)
 
 pub brake-cycles-spec : {M : Type 1} → statement M
-brake-cycles-spec = tie.close (tie.spec application-time-requires add-result returns)
+brake-cycles-spec = tie.close (tie.spec (λ c κs. search needs) add-result returns)

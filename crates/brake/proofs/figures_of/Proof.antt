@@ -12,17 +12,8 @@ use Rattle.brake.proofs.Consist.{Car, length-within, car-bounds, cycles
 use Rattle.brake.proofs.figures_of.Statement.{statement}
 use Rattle.brake.proofs.figures_of.Tie as tie
 
-length-in-range-requires : tie.Need-length-in-range-requires
-length-in-range-requires c κs = search needs
-
 returns : tie.Need-returns
 returns c = sym (figures-out _ _ (sym (c .before .length-in-range .ensures) ∙ not-true _ (c .if1 .taken)))
-
-car-of-requires : tie.Need-car-of-requires
-car-of-requires c κs = search needs
-
-enum-known-force : tie.Need-enum-known-force
-enum-known-force c = search needs
 
 -- the length is in range, and the load class has a car
 in-range : (c : tie.Else1) → lengthInRange (c .before .before .args .length) ≡ true
@@ -43,14 +34,8 @@ div-full c = car (c .before) .mass-positive
 cast-brake-cycles : tie.Need-cast-brake-cycles
 cast-brake-cycles c = omega (arith, length-within _ (in-range (c .before .before .before .before)))
 
-brake-cycles-requires : tie.Need-brake-cycles-requires
-brake-cycles-requires c κs = search needs
-
 div-t11 : tie.Need-div-t11
 div-t11 c = rw (c .brake-cycles .ensures) (cycles-positive _)
-
-enum-told : tie.Need-enum-told
-enum-told c = search needs
 
 returns-2 : tie.Need-returns-2
 unfolding figuresWith fullBrake
@@ -66,15 +51,15 @@ pub figures-of-spec : {M : Type 1} → statement M
 figures-of-spec =
     tie.close
     (tie.spec
-    length-in-range-requires
+    (λ c κs. search needs)
     returns
-    car-of-requires
-    enum-known-force
+    (λ c κs. search needs)
+    (λ c. search needs)
     mul-full
     div-full
     cast-brake-cycles
-    brake-cycles-requires
+    (λ c κs. search needs)
     div-t11
-    enum-told
+    (λ c. search needs)
     returns-2
     returns-3)

@@ -6,9 +6,6 @@ use borrow.Author.Needs.{needs}
 use Rattle.calls.proofs.read_as.Statement.{statement}
 use Rattle.calls.proofs.read_as.Tie as tie
 
-zero-from-requires : tie.Need-zero-from-requires
-zero-from-requires c κs = search needs
-
 returns : tie.Need-returns
 unfolding readAs
 returns c = rw (sym (c .before .zero-from .ensures) ∙ c .if1 .taken)
@@ -18,4 +15,4 @@ unfolding readAs
 returns-2 c = rw (sym (c .before .zero-from .ensures) ∙ c .if1 .left)
 
 pub read-as-spec : {M : Type 1} → statement M
-read-as-spec = tie.close (tie.spec zero-from-requires returns returns-2)
+read-as-spec = tie.close (tie.spec (λ c κs. search needs) returns returns-2)

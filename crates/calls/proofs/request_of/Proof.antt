@@ -6,48 +6,6 @@ use borrow.Author.Needs.{needs}
 use Rattle.calls.proofs.request_of.Statement.{statement}
 use Rattle.calls.proofs.request_of.Tie as tie
 
-array-read-code : tie.Need-array-read-code
-array-read-code c = search needs
-
-array-read-a : tie.Need-array-read-a
-array-read-a c = search needs
-
-array-read-b : tie.Need-array-read-b
-array-read-b c = search needs
-
-array-read-c : tie.Need-array-read-c
-array-read-c c = search needs
-
-array-read-d : tie.Need-array-read-d
-array-read-d c = search needs
-
-array-read-e : tie.Need-array-read-e
-array-read-e c = search needs
-
-read-as-requires : tie.Need-read-as-requires
-read-as-requires c κs = search needs
-
-read-as-requires-2 : tie.Need-read-as-requires-2
-read-as-requires-2 c κs = search needs
-
-read-as-requires-3 : tie.Need-read-as-requires-3
-read-as-requires-3 c κs = search needs
-
-read-as-requires-4 : tie.Need-read-as-requires-4
-read-as-requires-4 c κs = search needs
-
-read-as-requires-5 : tie.Need-read-as-requires-5
-read-as-requires-5 c κs = search needs
-
-read-as-requires-6 : tie.Need-read-as-requires-6
-read-as-requires-6 c κs = search needs
-
-read-as-requires-7 : tie.Need-read-as-requires-7
-read-as-requires-7 c κs = search needs
-
-read-as-requires-8 : tie.Need-read-as-requires-8
-read-as-requires-8 c κs = search needs
-
 returns : tie.Need-returns
 returns c = c .read-as .ensures ∙ sym (code-open _ (c .before .match .keys1))
 
@@ -81,20 +39,20 @@ pub request-of-spec : {M : Type 1} → statement M
 request-of-spec =
     tie.close
     (tie.spec
-    array-read-code
-    array-read-a
-    array-read-b
-    array-read-c
-    array-read-d
-    array-read-e
-    read-as-requires
-    read-as-requires-2
-    read-as-requires-3
-    read-as-requires-4
-    read-as-requires-5
-    read-as-requires-6
-    read-as-requires-7
-    read-as-requires-8
+    (λ c. search needs)
+    (λ c. search needs)
+    (λ c. search needs)
+    (λ c. search needs)
+    (λ c. search needs)
+    (λ c. search needs)
+    (λ c κs. search needs)
+    (λ c κs. search needs)
+    (λ c κs. search needs)
+    (λ c κs. search needs)
+    (λ c κs. search needs)
+    (λ c κs. search needs)
+    (λ c κs. search needs)
+    (λ c κs. search needs)
     returns
     returns-2
     returns-3

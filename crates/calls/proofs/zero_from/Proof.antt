@@ -23,9 +23,6 @@ loop-holds c = refl
 mul-if1 : tie.Need-mul-if1 Inv-loop μ-loop
 mul-if1 c = omega arith
 
-array-read-if1 : tie.Need-array-read-if1 Inv-loop μ-loop
-array-read-if1 c = search needs
-
 returns : tie.Need-returns Inv-loop μ-loop
 returns c =
     let s = c .before .before in
@@ -58,7 +55,7 @@ zero-from-spec =
     μ-loop
     loop-holds
     mul-if1
-    array-read-if1
+    (λ c. search needs)
     returns
     add-i
     loop-less

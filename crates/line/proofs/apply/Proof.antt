@@ -9,9 +9,6 @@ use borrow.Author.Needs.{needs}
 use Rattle.line.proofs.apply.Statement.{statement}
 use Rattle.line.proofs.apply.Tie as tie
 
-decide-call-requires : tie.Need-decide-call-requires
-decide-call-requires c κs = search needs
-
 carry-out-requires : tie.Need-carry-out-requires
 carry-out-requires c κs =
     let a = c .before .args in
@@ -23,4 +20,4 @@ unfolding step
 returns c = rw (c .carry-out .ensures, c .before .decide-call .ensures)
 
 pub apply-spec : {M : Type 1} → statement M
-apply-spec = tie.close (tie.spec decide-call-requires carry-out-requires returns)
+apply-spec = tie.close (tie.spec (λ c κs. search needs) carry-out-requires returns)

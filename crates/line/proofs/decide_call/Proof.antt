@@ -4,24 +4,6 @@ use borrow.Author.Needs.{needs}
 use Rattle.line.proofs.decide_call.Statement.{statement}
 use Rattle.line.proofs.decide_call.Tie as tie
 
-enum-known-c : tie.Need-enum-known-c
-enum-known-c c = search needs
-
-decide-enter-requires : tie.Need-decide-enter-requires
-decide-enter-requires c κs = search needs
-
-enum-known-c-2 : tie.Need-enum-known-c-2
-enum-known-c-2 c = search needs
-
-decide-own-requires : tie.Need-decide-own-requires
-decide-own-requires c κs = search needs
-
-enum-known-c-3 : tie.Need-enum-known-c-3
-enum-known-c-3 c = search needs
-
-decide-take-off-requires : tie.Need-decide-take-off-requires
-decide-take-off-requires c κs = search needs
-
 returns : tie.Need-returns
 returns c = rw (c .before .before .c .given .1) (c .decide-enter .ensures)
 
@@ -35,12 +17,12 @@ pub decide-call-spec : {M : Type 1} → statement M
 decide-call-spec =
     tie.close
     (tie.spec
-    enum-known-c
-    decide-enter-requires
-    enum-known-c-2
-    decide-own-requires
-    enum-known-c-3
-    decide-take-off-requires
+    (λ c. search needs)
+    (λ c κs. search needs)
+    (λ c. search needs)
+    (λ c κs. search needs)
+    (λ c. search needs)
+    (λ c κs. search needs)
     returns
     returns-2
     returns-3)

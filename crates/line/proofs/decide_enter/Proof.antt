@@ -12,32 +12,8 @@ use borrow.Author.Needs.{needs}
 use Rattle.line.proofs.decide_enter.Statement.{statement}
 use Rattle.line.proofs.decide_enter.Tie as tie
 
-figures-for-requires : tie.Need-figures-for-requires
-figures-for-requires c κs = search needs
-
-enum-known-k : tie.Need-enum-known-k
-enum-known-k c = search needs
-
-enum-told : tie.Need-enum-told
-enum-told c = search needs
-
-refuse-requires : tie.Need-refuse-requires
-refuse-requires c κs = search needs
-
 returns : tie.Need-returns
 returns c = c .refuse .ensures ∙ sym (enter-unfit _ _ (sym (c .before .before .before .figures-for .ensures) ∙ c .before .enum-told .given .1))
-
-id-in-range-requires : tie.Need-id-in-range-requires
-id-in-range-requires c κs = search needs
-
-start-in-range-requires : tie.Need-start-in-range-requires
-start-in-range-requires c κs = search needs
-
-both-requires : tie.Need-both-requires
-both-requires c κs = search needs
-
-refuse-requires-2 : tie.Need-refuse-requires-2
-refuse-requires-2 c κs = search needs
 
 -- the consist has figures
 given : (c : tie.After-k) → let a = c .before .before .before .before .args in figuresFor (a .t .settings) (a .e) ≡ Given (c .k .given .0 .0)
@@ -66,15 +42,15 @@ pub decide-enter-spec : {M : Type 1} → statement M
 decide-enter-spec =
     tie.close
     (tie.spec
-    figures-for-requires
-    enum-known-k
-    enum-told
-    refuse-requires
+    (λ c κs. search needs)
+    (λ c. search needs)
+    (λ c. search needs)
+    (λ c κs. search needs)
     returns
-    id-in-range-requires
-    start-in-range-requires
-    both-requires
-    refuse-requires-2
+    (λ c κs. search needs)
+    (λ c κs. search needs)
+    (λ c κs. search needs)
+    (λ c κs. search needs)
     returns-2
     enter-with-requires
     returns-3)

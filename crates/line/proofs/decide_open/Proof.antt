@@ -7,20 +7,8 @@ use borrow.Author.Needs.{needs}
 use Rattle.line.proofs.decide_open.Statement.{statement}
 use Rattle.line.proofs.decide_open.Tie as tie
 
-settings-in-range-requires : tie.Need-settings-in-range-requires
-settings-in-range-requires c κs = search needs
-
-refuse-requires : tie.Need-refuse-requires
-refuse-requires c κs = search needs
-
 returns : tie.Need-returns
 returns c = c .refuse .ensures ∙ sym (open-refused _ (sym (c .before .before .settings-in-range .ensures) ∙ not-true _ (c .before .if1 .taken)))
-
-settings-of-requires : tie.Need-settings-of-requires
-settings-of-requires c κs = search needs
-
-accept-requires : tie.Need-accept-requires
-accept-requires c κs = search needs
 
 returns-2 : tie.Need-returns-2
 returns-2 c =
@@ -32,9 +20,9 @@ pub decide-open-spec : {M : Type 1} → statement M
 decide-open-spec =
     tie.close
     (tie.spec
-    settings-in-range-requires
-    refuse-requires
+    (λ c κs. search needs)
+    (λ c κs. search needs)
     returns
-    settings-of-requires
-    accept-requires
+    (λ c κs. search needs)
+    (λ c κs. search needs)
     returns-2)

@@ -10,35 +10,8 @@ use borrow.Author.Needs.{needs}
 use Rattle.line.proofs.decide_own.Statement.{statement}
 use Rattle.line.proofs.decide_own.Tie as tie
 
-find-requires : tie.Need-find-requires
-find-requires c κs = search needs
-
-enum-known-i : tie.Need-enum-known-i
-enum-known-i c = search needs
-
-enum-told : tie.Need-enum-told
-enum-told c = search needs
-
-refuse-requires : tie.Need-refuse-requires
-refuse-requires c κs = search needs
-
 returns : tie.Need-returns
 returns c = c .refuse .ensures ∙ sym (own-unknown _ _ _ (none-found _ _ (sym (c .before .before .before .find .ensures) ∙ c .before .enum-told .given .1)))
-
-decide-requires : tie.Need-decide-requires
-decide-requires c κs = search needs
-
-enum-known-r : tie.Need-enum-known-r
-enum-known-r c = search needs
-
-refuse-requires-2 : tie.Need-refuse-requires-2
-refuse-requires-2 c κs = search needs
-
-enum-known-v : tie.Need-enum-known-v
-enum-known-v c = search needs
-
-accept-requires : tie.Need-accept-requires
-accept-requires c κs = search needs
 
 -- what is decided of the train that was found
 decided : (c : tie.After-decide) → let i = c .before .before .before in let a = i .before .before .before .args in
@@ -62,15 +35,15 @@ pub decide-own-spec : {M : Type 1} → statement M
 decide-own-spec =
     tie.close
     (tie.spec
-    find-requires
-    enum-known-i
-    enum-told
-    refuse-requires
+    (λ c κs. search needs)
+    (λ c. search needs)
+    (λ c. search needs)
+    (λ c κs. search needs)
     returns
-    decide-requires
-    enum-known-r
-    refuse-requires-2
-    enum-known-v
-    accept-requires
+    (λ c κs. search needs)
+    (λ c. search needs)
+    (λ c κs. search needs)
+    (λ c. search needs)
+    (λ c κs. search needs)
     returns-2
     returns-3)

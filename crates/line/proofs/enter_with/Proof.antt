@@ -13,21 +13,6 @@ use borrow.Author.Needs.{needs}
 use Rattle.line.proofs.enter_with.Statement.{statement}
 use Rattle.line.proofs.enter_with.Tie as tie
 
-find-requires : tie.Need-find-requires
-find-requires c κs = search needs
-
-enum-told : tie.Need-enum-told
-enum-told c = search needs
-
-refuse-requires : tie.Need-refuse-requires
-refuse-requires c κs = search needs
-
-enum-told-2 : tie.Need-enum-told-2
-enum-told-2 c = search needs
-
-refuse-requires-2 : tie.Need-refuse-requires-2
-refuse-requires-2 c κs = search needs
-
 -- the id is not on the line
 absent : (c : tie.After-enum-told2) → let a = c .before .before .before .args in placeOf (a .t) (a .e .id) ≡ none
 absent c = none-found _ _ (sym (c .before .before .find .ensures) ∙ c .enum-told2 .given .1)
@@ -37,28 +22,10 @@ returns c =
     let none = c .before .before in
     c .refuse2 .ensures ∙ sym (enter-full _ _ _ (none .before .before .before .pre .0) (absent none) (omega arith))
 
-cast-steps-of : tie.Need-cast-steps-of
-cast-steps-of c = search needs
-
-steps-of-requires : tie.Need-steps-of-requires
-steps-of-requires c κs = search needs
-
-refuse-requires-3 : tie.Need-refuse-requires-3
-refuse-requires-3 c κs = search needs
-
 returns-2 : tie.Need-returns-2
 returns-2 c =
     let none = c .before .before .before .before .before in
     c .refuse3 .ensures ∙ sym (enter-short _ _ _ (none .before .before .before .pre .0) (absent none) (omega arith) (omega arith))
-
-limit-at-requires : tie.Need-limit-at-requires
-limit-at-requires c κs = search needs
-
-within-requires : tie.Need-within-requires
-within-requires c κs = search needs
-
-refuse-requires-4 : tie.Need-refuse-requires-4
-refuse-requires-4 c κs = search needs
 
 -- the limit is tested at the head itself
 at-head : (c : tie.After-within) → let a = c .before .before .before .before .before .before .before .before .before .args in
@@ -72,12 +39,6 @@ returns-3 c =
     let none = c .before .before .before .before .before .before .before .before in
     c .refuse4 .ensures
     ∙ sym (enter-beyond _ _ _ (none .before .before .before .pre .0) (absent none) (omega arith) (omega arith) (at-head (c .before .before) ∙ not-true _ (c .before .if3 .taken)))
-
-new-train-requires : tie.Need-new-train-requires
-new-train-requires c κs = search needs
-
-accept-requires : tie.Need-accept-requires
-accept-requires c κs = search needs
 
 returns-4 : tie.Need-returns-4
 returns-4 c =
@@ -95,21 +56,21 @@ pub enter-with-spec : {M : Type 1} → statement M
 enter-with-spec =
     tie.close
     (tie.spec
-    find-requires
-    enum-told
-    refuse-requires
-    enum-told-2
-    refuse-requires-2
+    (λ c κs. search needs)
+    (λ c. search needs)
+    (λ c κs. search needs)
+    (λ c. search needs)
+    (λ c κs. search needs)
     returns
-    cast-steps-of
-    steps-of-requires
-    refuse-requires-3
+    (λ c. search needs)
+    (λ c κs. search needs)
+    (λ c κs. search needs)
     returns-2
-    limit-at-requires
-    within-requires
-    refuse-requires-4
+    (λ c κs. search needs)
+    (λ c κs. search needs)
+    (λ c κs. search needs)
     returns-3
-    new-train-requires
-    accept-requires
+    (λ c κs. search needs)
+    (λ c κs. search needs)
     returns-4
     returns-5)

@@ -4,14 +4,8 @@ use borrow.Author.Needs.{needs}
 use Rattle.line.proofs.no_table.Statement.{statement}
 use Rattle.line.proofs.no_table.Tie as tie
 
-settings-of-requires : tie.Need-settings-of-requires
-settings-of-requires c κs = search needs
-
-empty-table-requires : tie.Need-empty-table-requires
-empty-table-requires c κs = search needs
-
 returns : tie.Need-returns
 returns c = rw (c .empty-table .ensures, c .before .settings-of .ensures)
 
 pub no-table-spec : {M : Type 1} → statement M
-no-table-spec = tie.close (tie.spec settings-of-requires empty-table-requires returns)
+no-table-spec = tie.close (tie.spec (λ c κs. search needs) (λ c κs. search needs) returns)

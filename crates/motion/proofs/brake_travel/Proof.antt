@@ -15,26 +15,14 @@ use Rattle.motion.proofs.brake_travel.Tie as tie
 square : (v b : ℕ) → v ≤ b → b ≤ greatestFull → v * v ≤ greatestFull * greatestFull
 square v b slow within = let h : v ≤ greatestFull = omega arith in mul-le-mul h h
 
-mul-result : tie.Need-mul-result
-mul-result c = search needs
-
-sub-result : tie.Need-sub-result
-sub-result c = search needs
-
 returns : tie.Need-returns
 returns c = sym (travel-on _ _ _ (omega arith))
 
 mul-result-2 : tie.Need-mul-result-2
 mul-result-2 c = omega (arith, square (c .before .args .v) (c .before .args .b) (omega arith) (omega arith))
 
-sub-result-2 : tie.Need-sub-result-2
-sub-result-2 c = search needs
-
 add-result : tie.Need-add-result
 add-result c = omega (arith, square (c .before .args .v) (c .before .args .b) (omega arith) (omega arith))
-
-div-result : tie.Need-div-result
-div-result c = search needs
 
 returns-2 : tie.Need-returns-2
 unfolding ceilDiv
@@ -44,11 +32,11 @@ pub brake-travel-spec : {M : Type 1} → statement M
 brake-travel-spec =
     tie.close
     (tie.spec
-    mul-result
-    sub-result
+    (λ c. search needs)
+    (λ c. search needs)
     returns
     mul-result-2
-    sub-result-2
+    (λ c. search needs)
     add-result
-    div-result
+    (λ c. search needs)
     returns-2)

@@ -6,9 +6,6 @@ use Rattle.motion.proofs.Cycles.{drive-speed-gain}
 use Rattle.motion.proofs.caps_allowed.Statement.{statement}
 use Rattle.motion.proofs.caps_allowed.Tie as tie
 
-drive-speed-requires : tie.Need-drive-speed-requires
-drive-speed-requires c κs = search needs
-
 returns : tie.Need-returns
 returns c =
     let start = c .before .before in
@@ -18,9 +15,6 @@ returns c =
       exceed = λ d p q. let gain = drive-speed-gain (start .args .k) (start .args .v) d in omega (arith, c .before .drive-speed .ensures, c .if1 .taken);
     }
 
-add-result : tie.Need-add-result
-add-result c = search needs
-
 returns-2 : tie.Need-returns-2
 returns-2 c =
     let start = c .before .before .before in
@@ -29,9 +23,6 @@ returns-2 c =
       keep = λ d p. let gain = drive-speed-gain (start .args .k) (start .args .v) d in omega (arith, c .before .before .drive-speed .ensures, c .before .if1 .left, c .if2 .taken);
       exceed = λ d p q. absurd (omega arith);
     }
-
-add-result-2 : tie.Need-add-result-2
-add-result-2 c = search needs
 
 returns-3 : tie.Need-returns-3
 returns-3 c =
@@ -44,4 +35,4 @@ returns-3 c =
 
 pub caps-allowed-spec : {M : Type 1} → statement M
 caps-allowed-spec =
-    tie.close (tie.spec drive-speed-requires returns add-result returns-2 add-result-2 returns-3)
+    tie.close (tie.spec (λ c κs. search needs) returns (λ c. search needs) returns-2 (λ c. search needs) returns-3)

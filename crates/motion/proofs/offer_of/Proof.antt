@@ -4,11 +4,8 @@ use borrow.Author.Needs.{needs}
 use Rattle.motion.proofs.offer_of.Statement.{statement}
 use Rattle.motion.proofs.offer_of.Tie as tie
 
-reach-of-requires : tie.Need-reach-of-requires
-reach-of-requires c κs = search needs
-
 returns : tie.Need-returns
 returns c = rw (c .reach-of .ensures)
 
 pub offer-of-spec : {M : Type 1} → statement M
-offer-of-spec = tie.close (tie.spec reach-of-requires returns)
+offer-of-spec = tie.close (tie.spec (λ c κs. search needs) returns)

@@ -16,12 +16,6 @@ use Rattle.motion.proofs.Orders.{goal-below, none-allowed, some-allowed
 use Rattle.motion.proofs.order_for.Statement.{statement}
 use Rattle.motion.proofs.order_for.Tie as tie
 
-caps-allowed-requires : tie.Need-caps-allowed-requires
-caps-allowed-requires c κs = search needs
-
-offer-of-requires : tie.Need-offer-of-requires
-offer-of-requires c κs = search needs
-
 returns : tie.Need-returns
 returns c =
     let caps = c .before .before in
@@ -46,9 +40,6 @@ brakes c f =
     let a = start .args in
     order c ∙ none-passes (keepsGoal (a .k) (a .goal) (a .m)) (λ x y h e. goal-below (a .k) (a .goal) (a .m) x y (start .pre .figures) h e) (High c) f
 
-sub-most : tie.Need-sub-most
-sub-most c = search needs
-
 offer-of-requires-2 : tie.Need-offer-of-requires-2
 offer-of-requires-2 c κs = bounded-cap (c .before .before .pre) (omega (arith, c .before .caps-allowed .ensures .within))
 
@@ -68,21 +59,12 @@ returns-2 c =
 beyond : (c : tie.Else2) → let best = c .before .before in let a = best .before .before .before .args in a .goal < reach (a .k) (a .m) (Drive (High (best .before)))
 beyond c = omega (arith, reached (c .before .before), c .if2 .left)
 
-offer-of-requires-3 : tie.Need-offer-of-requires-3
-offer-of-requires-3 c κs = search needs
-
 returns-3 : tie.Need-returns-3
 returns-3 c =
     let some = c .before .before .before .before .before in
     let a = some .before .before .args in
     let over = subst (λ (d : ℕ). a .goal < reach (a .k) (a .m) (Drive d)) (c .before .if3 .taken) (beyond (c .before .before)) in
     rw (c .offer-of3 .ensures, brakes some (lt-leb (reach (a .k) (a .m) (Drive 0)) (a .goal) over))
-
-reach-of-requires : tie.Need-reach-of-requires
-reach-of-requires c κs = search needs
-
-offer-of-requires-4 : tie.Need-offer-of-requires-4
-offer-of-requires-4 c κs = search needs
 
 returns-4 : tie.Need-returns-4
 returns-4 c =
@@ -112,16 +94,16 @@ pub order-for-spec : {M : Type 1} → statement M
 order-for-spec =
     tie.close
     (tie.spec
-    caps-allowed-requires
-    offer-of-requires
+    (λ c κs. search needs)
+    (λ c κs. search needs)
     returns
-    sub-most
+    (λ c. search needs)
     offer-of-requires-2
     returns-2
-    offer-of-requires-3
+    (λ c κs. search needs)
     returns-3
-    reach-of-requires
-    offer-of-requires-4
+    (λ c κs. search needs)
+    (λ c κs. search needs)
     returns-4
     halve-requires
     returns-5)

@@ -8,9 +8,6 @@ use Rattle.motion.proofs.Bounds.{worst-head, worst-braking, stop-fits}
 use Rattle.motion.proofs.reach_of.Statement.{statement}
 use Rattle.motion.proofs.reach_of.Tie as tie
 
-worst-case-requires : tie.Need-worst-case-requires
-worst-case-requires c κs = search needs
-
 -- the worst case brakes within bounds
 worst : (c : tie.Start) → let a = c .args in Braking (a .k) (worstCase (a .k) (a .m) (a .o) .speed) (worstCase (a .k) (a .m) (a .o) .level)
 worst c = worst-braking (c .args .k) (c .args .m) (c .args .o) (c .pre)
@@ -32,4 +29,4 @@ returns c = rw (c .stopping-distance .ensures, c .before .worst-case .ensures)
 
 pub reach-of-spec : {M : Type 1} → statement M
 reach-of-spec =
-    tie.close (tie.spec worst-case-requires stopping-distance-requires add-result returns)
+    tie.close (tie.spec (λ c κs. search needs) stopping-distance-requires add-result returns)

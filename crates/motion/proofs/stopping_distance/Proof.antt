@@ -28,9 +28,6 @@ abbrev μ-loop : tie.MeasureT-loop
 loop-holds : tie.Need-loop-holds Inv-loop μ-loop
 loop-holds c = record { left = omega arith; braking = c .pre }
 
-last-cycle-requires : tie.Need-last-cycle-requires Inv-loop μ-loop
-last-cycle-requires c κs = search needs
-
 -- in the loop's body
 abbrev K : tie.Then1 Inv-loop μ-loop → Figures
 K c = c .before .before .before .args .k
@@ -106,7 +103,7 @@ stopping-distance-spec =
     Inv-loop
     μ-loop
     loop-holds
-    last-cycle-requires
+    (λ c κs. search needs)
     brake-travel-requires
     add-distance
     brake-speed-requires

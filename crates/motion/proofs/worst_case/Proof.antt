@@ -10,9 +10,6 @@ use Rattle.motion.proofs.Bounds.{driving, drive-travel-fits, brake-trav
 use Rattle.motion.proofs.worst_case.Statement.{statement}
 use Rattle.motion.proofs.worst_case.Tie as tie
 
-enum-known-o : tie.Need-enum-known-o
-enum-known-o c = search needs
-
 -- the order drives, with a cap that fits
 abbrev S : tie.After-known-told → tie.Start
 S c = c .before .before .before
@@ -29,20 +26,8 @@ add-t10 c = omega (arith, c .drive-travel .ensures, drive-travel-fits _ _ _ (dri
 drive-speed-requires : tie.Need-drive-speed-requires
 drive-speed-requires c κs = driven (c .before)
 
-enum-told : tie.Need-enum-told
-enum-told c = search needs
-
-brake-travel-requires : tie.Need-brake-travel-requires
-brake-travel-requires c κs = search needs
-
 add-t13 : tie.Need-add-t13
 add-t13 c = let start = c .before .before .before in omega (arith, c .brake-travel .ensures, brake-travel-fits _ _ (start .pre), start .pre .head)
-
-brake-speed-requires : tie.Need-brake-speed-requires
-brake-speed-requires c κs = search needs
-
-next-level-requires : tie.Need-next-level-requires
-next-level-requires c κs = search needs
 
 returns : tie.Need-returns
 returns c =
@@ -56,14 +41,14 @@ pub worst-case-spec : {M : Type 1} → statement M
 worst-case-spec =
     tie.close
     (tie.spec
-    enum-known-o
+    (λ c. search needs)
     drive-travel-requires
     add-t10
     drive-speed-requires
-    enum-told
-    brake-travel-requires
+    (λ c. search needs)
+    (λ c κs. search needs)
     add-t13
-    brake-speed-requires
-    next-level-requires
+    (λ c κs. search needs)
+    (λ c κs. search needs)
     returns
     returns-2)

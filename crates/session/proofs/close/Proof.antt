@@ -10,9 +10,6 @@ use Rattle.stream.proofs.Bytes.{over-within}
 use Rattle.session.proofs.close.Statement.{statement}
 use Rattle.session.proofs.close.Tie as tie
 
-finish-requires : tie.Need-finish-requires
-finish-requires c κs = search needs
-
 within : (c : tie.After-finish) → c .finish .result ≤ length (c .finish .last .1 .0)
 within c =
     let a = c .before .before .before .args in
@@ -26,22 +23,13 @@ slice-aggregate-write-all c =
     let f = c .before .before .before in
     sym (length-take-le (f .finish .result) (f .finish .last .1 .0) (within f))
 
-write-all-requires : tie.Need-write-all-requires
-write-all-requires c κs = search needs
-
-same-length : tie.Need-same-length
-same-length c = search needs
-
-returns : tie.Need-returns
-returns c = search needs
-
 pub close-spec : {M : Type 1} → statement M
 close-spec =
     tie.close
     (tie.spec
-    finish-requires
+    (λ c κs. search needs)
     slice-reshare-prefix-write-all
     slice-aggregate-write-all
-    write-all-requires
-    same-length
-    returns)
+    (λ c κs. search needs)
+    (λ c. search needs)
+    (λ c. search needs))

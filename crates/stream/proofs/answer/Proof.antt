@@ -9,15 +9,6 @@ use borrow.Author.Needs.{needs}
 use Rattle.stream.proofs.answer.Statement.{statement}
 use Rattle.stream.proofs.answer.Tie as tie
 
-decide-line-requires : tie.Need-decide-line-requires
-decide-line-requires c κs = search needs
-
-numbers-of-requires : tie.Need-numbers-of-requires
-numbers-of-requires c κs = search needs
-
-either-requires : tie.Need-either-requires
-either-requires c κs = search needs
-
 size : (c : tie.Start) → length (c .args .s .table .trains) ≡ 32
 size c = search (needs, long)
 
@@ -38,4 +29,4 @@ returns c =
 pub answer-spec : {M : Type 1} → statement M
 answer-spec =
     tie.close
-    (tie.spec decide-line-requires numbers-of-requires either-requires carry-out-requires returns)
+    (tie.spec (λ c κs. search needs) (λ c κs. search needs) (λ c κs. search needs) carry-out-requires returns)

@@ -6,21 +6,6 @@ use borrow.Author.Needs.{needs}
 use Rattle.stream.proofs.decide_line.Statement.{statement}
 use Rattle.stream.proofs.decide_line.Tie as tie
 
-read-line-requires : tie.Need-read-line-requires
-read-line-requires c κs = search needs
-
-enum-known-read : tie.Need-enum-known-read
-enum-known-read c = search needs
-
-decide-request-requires : tie.Need-decide-request-requires
-decide-request-requires c κs = search needs
-
-enum-told : tie.Need-enum-told
-enum-told c = search needs
-
-refuse-requires : tie.Need-refuse-requires
-refuse-requires c κs = search needs
-
 returns : tie.Need-returns
 returns c =
     let r = c .before .before in
@@ -36,10 +21,10 @@ pub decide-line-spec : {M : Type 1} → statement M
 decide-line-spec =
     tie.close
     (tie.spec
-    read-line-requires
-    enum-known-read
-    decide-request-requires
-    enum-told
-    refuse-requires
+    (λ c κs. search needs)
+    (λ c. search needs)
+    (λ c κs. search needs)
+    (λ c. search needs)
+    (λ c κs. search needs)
     returns
     returns-2)

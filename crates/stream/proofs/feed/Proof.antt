@@ -17,9 +17,6 @@ returns c =
 feed-all-requires : tie.Need-feed-all-requires
 feed-all-requires c κs = omega arith
 
-same-length : tie.Need-same-length
-same-length c = search needs
-
 returns-2 : tie.Need-returns-2
 unfolding hasRoom
 returns-2 c =
@@ -31,4 +28,4 @@ returns-2 c =
     }
 
 pub feed-spec : {M : Type 1} → statement M
-feed-spec = tie.close (tie.spec returns feed-all-requires same-length returns-2)
+feed-spec = tie.close (tie.spec returns feed-all-requires (λ c. search needs) returns-2)

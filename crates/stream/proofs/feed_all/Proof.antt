@@ -44,9 +44,6 @@ entry k = k .before .before .before .before .before .before
 size : (c : tie.Start Inv-loop μ-loop) → length (c .args .x .session .table .trains) ≡ 32
 size c = search (needs, long)
 
-kept-count-requires : tie.Need-kept-count-requires Inv-loop μ-loop
-kept-count-requires c κs = search needs
-
 loop-holds : tie.Need-loop-holds Inv-loop μ-loop
 loop-holds c =
     record {
@@ -65,12 +62,6 @@ shared-slice-read-b c = omega arith
 
 add-i : tie.Need-add-i Inv-loop μ-loop
 add-i c = omega arith
-
-slice-aggregate-push : tie.Need-slice-aggregate-push Inv-loop μ-loop
-slice-aggregate-push c = search needs
-
-push-requires : tie.Need-push-requires Inv-loop μ-loop
-push-requires c κs = search needs
 
 loop-less : tie.Need-loop-less Inv-loop μ-loop
 loop-less c = omega arith
@@ -93,28 +84,16 @@ loop-again c =
           ∙ byte-taken (session (k .loop .opened) (k .loop .table)) (take (k .loop .count) (k .loop .bytes)) (take (k .loop .at) (k .loop .out)) (a .piece .now) (k .loop .i) more _ (c .before .before .before .if1 .taken) (c .before .push .ensures .0);
     }
 
-array-share-prefix-bytes : tie.Need-array-share-prefix-bytes Inv-loop μ-loop
-array-share-prefix-bytes c = search needs
-
 slice-aggregate-decide-line : tie.Need-slice-aggregate-decide-line Inv-loop μ-loop
 slice-aggregate-decide-line c =
     let k = c .before .before .before .before in
     omega (arith, length-take (k .loop .count) (k .loop .bytes))
-
-decide-line-requires : tie.Need-decide-line-requires Inv-loop μ-loop
-decide-line-requires c κs = search needs
-
-numbers-of-requires : tie.Need-numbers-of-requires Inv-loop μ-loop
-numbers-of-requires c κs = search needs
 
 put-line-requires : tie.Need-put-line-requires Inv-loop μ-loop
 put-line-requires c κs = omega arith
 
 add-at : tie.Need-add-at Inv-loop μ-loop
 add-at c = omega arith
-
-either-requires : tie.Need-either-requires Inv-loop μ-loop
-either-requires c κs = search needs
 
 -- ---- a line feed: what every arm of the match stands on
 
@@ -166,9 +145,6 @@ line-fed e u made all =
           ∙ ap (λ (z : Session). standing z [] (take (at + outputWidth) (p .put-line .last .0)) (drop (k .loop .i + 1) (a .piece .now))) same;
     }
 
-enum-told : tie.Need-enum-told Inv-loop μ-loop
-enum-told c = search needs
-
 loop-less-2 : tie.Need-loop-less-2 Inv-loop μ-loop
 loop-less-2 c = omega arith
 
@@ -177,9 +153,6 @@ loop-again-2 c =
     let e = c .before .before in
     let t = tableThen (decided e) in
     line-fed e t (sym (ap (changed t) (c .enum-told .given .1))) (turn (decided e) .before .loop .inv .trains)
-
-enum-known-c : tie.Need-enum-known-c Inv-loop μ-loop
-enum-known-c c = search needs
 
 -- another record: its place is there
 below : (c : tie.After-known-told Inv-loop μ-loop) → c .before .c .given .0 .0 < places
@@ -236,25 +209,25 @@ feed-all-spec =
     (tie.spec
     Inv-loop
     μ-loop
-    kept-count-requires
+    (λ c κs. search needs)
     loop-holds
     shared-slice-read-b
     add-i
-    slice-aggregate-push
-    push-requires
+    (λ c. search needs)
+    (λ c κs. search needs)
     loop-less
     loop-again
-    array-share-prefix-bytes
+    (λ c. search needs)
     slice-aggregate-decide-line
-    decide-line-requires
-    numbers-of-requires
+    (λ c κs. search needs)
+    (λ c κs. search needs)
     put-line-requires
     add-at
-    either-requires
-    enum-told
+    (λ c κs. search needs)
+    (λ c. search needs)
     loop-less-2
     loop-again-2
-    enum-known-c
+    (λ c. search needs)
     mul-y
     element-set-from-y
     loop-less-3

@@ -21,15 +21,6 @@ returns-2 c =
     let e = no-room (a .x) (a .out .now) (c .if2 .taken) in
     (rw e refl, rw e refl)
 
-numbers-of-requires : tie.Need-numbers-of-requires
-numbers-of-requires c κs = search needs
-
-put-line-requires : tie.Need-put-line-requires
-put-line-requires c κs = search needs
-
-same-length : tie.Need-same-length
-same-length c = search needs
-
 long : (c : tie.Start) → 0 < length (c .args .x .bytes)
 long c = search needs
 
@@ -45,4 +36,4 @@ returns-3 c =
     )
 
 pub finish-spec : {M : Type 1} → statement M
-finish-spec = tie.close (tie.spec returns returns-2 numbers-of-requires put-line-requires same-length returns-3)
+finish-spec = tie.close (tie.spec returns returns-2 (λ c κs. search needs) (λ c κs. search needs) (λ c. search needs) returns-3)

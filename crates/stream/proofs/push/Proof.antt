@@ -7,23 +7,11 @@ use Rattle.stream.proofs.Bytes.{keep-more}
 use Rattle.stream.proofs.push.Statement.{statement}
 use Rattle.stream.proofs.push.Tie as tie
 
-slice-write-bytes : tie.Need-slice-write-bytes
-slice-write-bytes c = search needs
-
-add-result : tie.Need-add-result
-add-result c = search needs
-
-same-length : tie.Need-same-length
-same-length c = search needs
-
 returns : tie.Need-returns
 returns c = let a = c .before .args in (keep-more (a .bytes .now) (a .count) (a .count + 1) (a .b) (omega arith) (omega arith), omega arith)
-
-same-length-2 : tie.Need-same-length-2
-same-length-2 c = search needs
 
 returns-2 : tie.Need-returns-2
 returns-2 c = let a = c .before .args in (keep-more (a .bytes .now) (a .count) (a .count) (a .b) (omega arith) (omega arith), omega arith)
 
 pub push-spec : {M : Type 1} → statement M
-push-spec = tie.close (tie.spec slice-write-bytes add-result same-length returns same-length-2 returns-2)
+push-spec = tie.close (tie.spec (λ c. search needs) (λ c. search needs) (λ c. search needs) returns (λ c. search needs) returns-2)

@@ -10,18 +10,6 @@ use Rattle.stream.proofs.Bytes.{line-ended}
 use Rattle.stream.proofs.put_line.Statement.{statement}
 use Rattle.stream.proofs.put_line.Tie as tie
 
-render-requires : tie.Need-render-requires
-render-requires c κs = search needs
-
-add-out : tie.Need-add-out
-add-out c = search needs
-
-slice-write-out : tie.Need-slice-write-out
-slice-write-out c = search needs
-
-same-length : tie.Need-same-length
-same-length c = search needs
-
 returns : tie.Need-returns
 returns c =
     let r = c .before .before in
@@ -30,4 +18,4 @@ returns c =
     rw (r .render .ensures .1, room) (line-ended (a .out .now) (a .at) (a .a) (r .before .before .before .pre))
 
 pub put-line-spec : {M : Type 1} → statement M
-put-line-spec = tie.close (tie.spec render-requires add-out slice-write-out same-length returns)
+put-line-spec = tie.close (tie.spec (λ c κs. search needs) (λ c. search needs) (λ c. search needs) (λ c. search needs) returns)

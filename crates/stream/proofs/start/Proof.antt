@@ -5,11 +5,8 @@ use borrow.Author.Needs.{needs}
 use Rattle.stream.proofs.start.Statement.{statement}
 use Rattle.stream.proofs.start.Tie as tie
 
-no-table-requires : tie.Need-no-table-requires
-no-table-requires c κs = search needs
-
 returns : tie.Need-returns
 returns c = (rw (c .no-table .ensures) refl, refl)
 
 pub start-spec : {M : Type 1} → statement M
-start-spec = tie.close (tie.spec no-table-requires returns)
+start-spec = tie.close (tie.spec (λ c κs. search needs) returns)

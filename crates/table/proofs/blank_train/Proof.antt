@@ -4,14 +4,8 @@ use borrow.Author.Needs.{needs}
 use Rattle.table.proofs.blank_train.Statement.{statement}
 use Rattle.table.proofs.blank_train.Tie as tie
 
-fresh-authority-requires : tie.Need-fresh-authority-requires
-fresh-authority-requires c κs = search needs
-
-fresh-marks-requires : tie.Need-fresh-marks-requires
-fresh-marks-requires c κs = search needs
-
 returns : tie.Need-returns
 returns c = rw (c .before .fresh-authority .ensures, c .fresh-marks .ensures)
 
 pub blank-train-spec : {M : Type 1} → statement M
-blank-train-spec = tie.close (tie.spec fresh-authority-requires fresh-marks-requires returns)
+blank-train-spec = tie.close (tie.spec (λ c κs. search needs) (λ c κs. search needs) returns)

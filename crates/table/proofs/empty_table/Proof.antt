@@ -4,11 +4,8 @@ use borrow.Author.Needs.{needs}
 use Rattle.table.proofs.empty_table.Statement.{statement}
 use Rattle.table.proofs.empty_table.Tie as tie
 
-blank-train-requires : tie.Need-blank-train-requires
-blank-train-requires c κs = search needs
-
 returns : tie.Need-returns
 returns c = rw (c .blank-train .ensures)
 
 pub empty-table-spec : {M : Type 1} → statement M
-empty-table-spec = tie.close (tie.spec blank-train-requires returns)
+empty-table-spec = tie.close (tie.spec (λ c κs. search needs) returns)

@@ -66,9 +66,6 @@ mul-ahead c = omega arith
 element-copy-out-ahead : tie.Need-element-copy-out-ahead Inv-loop μ-loop
 element-copy-out-ahead c = omega arith
 
-limit-behind-requires : tie.Need-limit-behind-requires Inv-loop μ-loop
-limit-behind-requires c κs = search needs
-
 returns-3 : tie.Need-returns-3 Inv-loop μ-loop
 returns-3 c =
     let behind = c .before .before in
@@ -112,7 +109,7 @@ find-spec =
     sub-ahead
     mul-ahead
     element-copy-out-ahead
-    limit-behind-requires
+    (λ c κs. search needs)
     returns-3
     add-i
     loop-less

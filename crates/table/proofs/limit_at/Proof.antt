@@ -10,18 +10,9 @@ use Rattle.table.proofs.limit_at.Tie as tie
 returns : tie.Need-returns
 returns c = rw (ahead-first _ _ (c .if1 .taken)) (sym (limit-first _))
 
-sub-train-at : tie.Need-sub-train-at
-sub-train-at c = search needs
-
-train-at-requires : tie.Need-train-at-requires
-train-at-requires c κs = search needs
-
-limit-behind-requires : tie.Need-limit-behind-requires
-limit-behind-requires c κs = search needs
-
 returns-2 : tie.Need-returns-2
 returns-2 c = rw (ahead-behind _ _ (c .before .before .if1 .left), ← (c .before .train-at .ensures)) (c .limit-behind .ensures)
 
 pub limit-at-spec : {M : Type 1} → statement M
 limit-at-spec =
-    tie.close (tie.spec returns sub-train-at train-at-requires limit-behind-requires returns-2)
+    tie.close (tie.spec returns (λ c. search needs) (λ c κs. search needs) (λ c κs. search needs) returns-2)

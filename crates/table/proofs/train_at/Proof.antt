@@ -9,18 +9,6 @@ use borrow.Author.Needs.{needs}
 use Rattle.table.proofs.train_at.Statement.{statement}
 use Rattle.table.proofs.train_at.Tie as tie
 
-mul-result : tie.Need-mul-result
-mul-result c = search needs
-
-element-copy-out-result : tie.Need-element-copy-out-result
-element-copy-out-result c = search needs
-
-returns : tie.Need-returns
-returns c = search needs
-
-blank-train-requires : tie.Need-blank-train-requires
-blank-train-requires c κs = search needs
-
 returns-2 : tie.Need-returns-2
 returns-2 c =
     let a = c .before .before .args in
@@ -29,4 +17,4 @@ returns-2 c =
 
 pub train-at-spec : {M : Type 1} → statement M
 train-at-spec =
-    tie.close (tie.spec mul-result element-copy-out-result returns blank-train-requires returns-2)
+    tie.close (tie.spec (λ c. search needs) (λ c. search needs) (λ c. search needs) (λ c κs. search needs) returns-2)

@@ -15,9 +15,6 @@ Inv-loop t n last u₀ i₀ u i = (i ≤ last) × (u ≡ record { trains = upTo 
 abbrev μ-loop : tie.MeasureT-loop
 μ-loop t n last u₀ i₀ u i = last - i
 
-last-place-requires : tie.Need-last-place-requires Inv-loop μ-loop
-last-place-requires c κs = search needs
-
 loop-holds : tie.Need-loop-holds Inv-loop μ-loop
 loop-holds c = (omega arith, refl)
 
@@ -49,9 +46,6 @@ loop-again c =
     let size : length l ≡ 32 = search (needs, long) in
     (omega arith, rw (s .loop .inv .1, up-next l size (s .loop .i) (omega arith)))
 
-blank-train-requires : tie.Need-blank-train-requires Inv-loop μ-loop
-blank-train-requires c κs = search needs
-
 mul-t18 : tie.Need-mul-t18 Inv-loop μ-loop
 mul-t18 c = omega arith
 
@@ -76,7 +70,7 @@ without-first-spec =
     (tie.spec
     Inv-loop
     μ-loop
-    last-place-requires
+    (λ c κs. search needs)
     loop-holds
     add-u
     mul-u
@@ -86,7 +80,7 @@ without-first-spec =
     add-i
     loop-less
     loop-again
-    blank-train-requires
+    (λ c κs. search needs)
     mul-t18
     element-set-from-u-2
     sub-u

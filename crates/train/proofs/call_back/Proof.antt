@@ -7,14 +7,8 @@ use Rattle.train.proofs.Verdicts.{call-back-refused, call-back-taken}
 use Rattle.train.proofs.call_back.Statement.{statement}
 use Rattle.train.proofs.call_back.Tie as tie
 
-call-back-allowed-requires : tie.Need-call-back-allowed-requires
-call-back-allowed-requires c κs = search needs
-
 returns : tie.Need-returns
 returns c = sym (call-back-refused _ _ (sym (c .before .call-back-allowed .ensures) ∙ not-true _ (c .if1 .taken)))
-
-call-back-to-requires : tie.Need-call-back-to-requires
-call-back-to-requires c κs = search needs
 
 returns-2 : tie.Need-returns-2
 returns-2 c =
@@ -22,4 +16,4 @@ returns-2 c =
     rw (c .call-back-to .ensures) (sym (call-back-taken _ _ (sym (test .before .call-back-allowed .ensures) ∙ not-false _ (test .if1 .left))))
 
 pub call-back-spec : {M : Type 1} → statement M
-call-back-spec = tie.close (tie.spec call-back-allowed-requires returns call-back-to-requires returns-2)
+call-back-spec = tie.close (tie.spec (λ c κs. search needs) returns (λ c κs. search needs) returns-2)

@@ -7,18 +7,12 @@ use borrow.Author.Needs.{needs}
 use Rattle.train.proofs.call_back_allowed.Statement.{statement}
 use Rattle.train.proofs.call_back_allowed.Tie as tie
 
-is-computable-requires : tie.Need-is-computable-requires
-is-computable-requires c κs = search needs
-
 returns : tie.Need-returns
 unfolding callBackAllowed
 returns c = rw (sym (c .before .is-computable .ensures) ∙ not-true _ (c .if1 .taken), callBackAllowed)
 
 reach-of-requires : tie.Need-reach-of-requires
 reach-of-requires c κs = sym (c .before .before .is-computable .ensures) ∙ not-false _ (c .before .if1 .left)
-
-in-range-requires : tie.Need-in-range-requires
-in-range-requires c κs = search needs
 
 returns-2 : tie.Need-returns-2
 unfolding callBackAllowed
@@ -30,4 +24,4 @@ returns-2 c =
 pub call-back-allowed-spec : {M : Type 1} → statement M
 call-back-allowed-spec =
     tie.close
-    (tie.spec is-computable-requires returns reach-of-requires in-range-requires returns-2)
+    (tie.spec (λ c κs. search needs) returns reach-of-requires (λ c κs. search needs) returns-2)

@@ -10,14 +10,8 @@ use Rattle.train.proofs.Verdicts.{extend-bad, extend-old, extend-other,
 use Rattle.train.proofs.extend.Statement.{statement}
 use Rattle.train.proofs.extend.Tie as tie
 
-request-in-range-requires : tie.Need-request-in-range-requires
-request-in-range-requires c κs = search needs
-
 returns : tie.Need-returns
 returns c = let a = c .before .before .before .args in sym (extend-bad (a .s) (a .x) (a .limit) (a .q) (sym (c .before .request-in-range .ensures) ∙ not-true _ (c .if1 .taken)))
-
-is-old-requires : tie.Need-is-old-requires
-is-old-requires c κs = search needs
 
 -- the request is in range
 ranged : (c : tie.Else1) → let a = c .before .before .before .args in requestInRange (a .s) (a .q) ≡ true
@@ -46,9 +40,6 @@ returns-4 c =
     let a = past .before .before .before .before .before .args in
     sym (extend-repeat (a .s) (a .x) (a .limit) (a .q) (ranged (past .before .before)) (fresh past) (same .if3 .taken) (c .if4 .left))
 
-within-requires : tie.Need-within-requires
-within-requires c κs = search needs
-
 returns-5 : tie.Need-returns-5
 returns-5 c =
     let new = c .before .before in
@@ -72,13 +63,13 @@ pub extend-spec : {M : Type 1} → statement M
 extend-spec =
     tie.close
     (tie.spec
-    request-in-range-requires
+    (λ c κs. search needs)
     returns
-    is-old-requires
+    (λ c κs. search needs)
     returns-2
     returns-3
     returns-4
-    within-requires
+    (λ c κs. search needs)
     returns-5
     grant-requires
     returns-6)

@@ -5,15 +5,9 @@ use borrow.Author.Needs.{needs}
 use Rattle.train.proofs.is_computable.Statement.{statement}
 use Rattle.train.proofs.is_computable.Tie as tie
 
-order-cap-requires : tie.Need-order-cap-requires
-order-cap-requires c κs = search needs
-
-in-bounds-requires : tie.Need-in-bounds-requires
-in-bounds-requires c κs = search needs
-
 returns : tie.Need-returns
 unfolding computable
 returns c = cc
 
 pub is-computable-spec : {M : Type 1} → statement M
-is-computable-spec = tie.close (tie.spec order-cap-requires in-bounds-requires returns)
+is-computable-spec = tie.close (tie.spec (λ c κs. search needs) (λ c κs. search needs) returns)

@@ -7,9 +7,6 @@ use Rattle.train.proofs.Track.{limit-nowhere, limit-place}
 use Rattle.train.proofs.limit_behind.Statement.{statement}
 use Rattle.train.proofs.limit_behind.Tie as tie
 
-steps-of-requires : tie.Need-steps-of-requires
-steps-of-requires c κs = search needs
-
 returns : tie.Need-returns
 returns c = sym (limit-nowhere _ _ (omega arith))
 
@@ -20,4 +17,4 @@ returns-3 : tie.Need-returns-3
 returns-3 c = rw (c .before .before .steps-of .ensures) (sym (limit-place _ _ (omega arith)))
 
 pub limit-behind-spec : {M : Type 1} → statement M
-limit-behind-spec = tie.close (tie.spec steps-of-requires returns returns-2 returns-3)
+limit-behind-spec = tie.close (tie.spec (λ c κs. search needs) returns returns-2 returns-3)

@@ -8,8 +8,5 @@ use Rattle.train.proofs.reach_of.Tie as tie
 reach-of-requires : tie.Need-reach-of-requires
 reach-of-requires c κs = computable-bounded _ (c .before .before .pre)
 
-returns : tie.Need-returns
-returns c = search needs
-
 pub reach-of-spec : {M : Type 1} → statement M
-reach-of-spec = tie.close (tie.spec reach-of-requires returns)
+reach-of-spec = tie.close (tie.spec reach-of-requires (λ c. search needs))

@@ -9,9 +9,6 @@ use Rattle.train.proofs.Verdicts.{report-refused, report-taken}
 use Rattle.train.proofs.report.Statement.{statement}
 use Rattle.train.proofs.report.Tie as tie
 
-report-allowed-requires : tie.Need-report-allowed-requires
-report-allowed-requires c κs = search needs
-
 returns : tie.Need-returns
 returns c = sym (report-refused _ _ _ (sym (c .before .report-allowed .ensures) ∙ not-true _ (c .if1 .taken)))
 
@@ -26,4 +23,4 @@ returns-2 : tie.Need-returns-2
 returns-2 c = rw (c .before .report-on .ensures) (sym (report-taken _ _ _ (passes (c .before .before))))
 
 pub report-spec : {M : Type 1} → statement M
-report-spec = tie.close (tie.spec report-allowed-requires returns report-on-requires returns-2)
+report-spec = tie.close (tie.spec (λ c κs. search needs) returns report-on-requires returns-2)

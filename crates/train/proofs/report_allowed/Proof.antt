@@ -7,9 +7,6 @@ use borrow.Author.Needs.{needs}
 use Rattle.train.proofs.report_allowed.Statement.{statement}
 use Rattle.train.proofs.report_allowed.Tie as tie
 
-is-computable-requires : tie.Need-is-computable-requires
-is-computable-requires c κs = search needs
-
 returns : tie.Need-returns
 unfolding reportAllowed
 returns c = rw (sym (c .before .is-computable .ensures) ∙ not-true _ (c .if1 .taken), reportAllowed)
@@ -19,12 +16,6 @@ motion-after-requires c κs = let one = c .before .before in sym (one .before .i
 
 is-allowed-requires : tie.Need-is-allowed-requires
 is-allowed-requires c κs = let one = c .before .before .before in sym (one .before .is-computable .ensures) ∙ not-false _ (one .if1 .left)
-
-in-bounds-requires : tie.Need-in-bounds-requires
-in-bounds-requires c κs = search needs
-
-both-requires : tie.Need-both-requires
-both-requires c κs = search needs
 
 returns-2 : tie.Need-returns-2
 unfolding reportAllowed
@@ -38,10 +29,10 @@ pub report-allowed-spec : {M : Type 1} → statement M
 report-allowed-spec =
     tie.close
     (tie.spec
-    is-computable-requires
+    (λ c κs. search needs)
     returns
     motion-after-requires
     is-allowed-requires
-    in-bounds-requires
-    both-requires
+    (λ c κs. search needs)
+    (λ c κs. search needs)
     returns-2)

@@ -12,13 +12,10 @@ motion-after-requires c κs = report-passed _ _ _ (c .pre) .computes
 order-after-requires : tie.Need-order-after-requires
 order-after-requires c κs = rw (c .motion-after .ensures) (report-passed _ _ _ (c .before .pre) .bounded)
 
-with-motion-requires : tie.Need-with-motion-requires
-with-motion-requires c κs = search needs
-
 returns : tie.Need-returns
 unfolding reported
 returns c = rw (c .with-motion .ensures, c .before .order-after .ensures, c .before .before .motion-after .ensures)
 
 pub report-on-spec : {M : Type 1} → statement M
 report-on-spec =
-    tie.close (tie.spec motion-after-requires order-after-requires with-motion-requires returns)
+    tie.close (tie.spec motion-after-requires order-after-requires (λ c κs. search needs) returns)

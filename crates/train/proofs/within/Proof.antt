@@ -9,17 +9,11 @@ use borrow.Author.Needs.{needs}
 use Rattle.train.proofs.within.Statement.{statement}
 use Rattle.train.proofs.within.Tie as tie
 
-enum-known-limit : tie.Need-enum-known-limit
-enum-known-limit c = search needs
-
 returns : tie.Need-returns
 returns c =
     let a = c .before .before .before .before .args in
     let limit = c .before .before .limit in
     (rw (limit .given .1) (sym (lt-leb (a .end + a .more) (limit .given .0 .0) (omega arith))), λ e. let z : _≡_ {A = ℕ} 0 1 = cc in omega arith)
-
-enum-told : tie.Need-enum-told
-enum-told c = search needs
 
 returns-2 : tie.Need-returns-2
 returns-2 c =
@@ -34,4 +28,4 @@ returns-3 : tie.Need-returns-3
 returns-3 c = (rw (c .enum-told .given .1), λ e. let z : _≡_ {A = ℕ} 0 1 = cc in omega arith)
 
 pub within-spec : {M : Type 1} → statement M
-within-spec = tie.close (tie.spec enum-known-limit returns enum-told returns-2 returns-3)
+within-spec = tie.close (tie.spec (λ c. search needs) returns (λ c. search needs) returns-2 returns-3)

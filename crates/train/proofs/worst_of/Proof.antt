@@ -8,8 +8,5 @@ use Rattle.train.proofs.worst_of.Tie as tie
 worst-case-requires : tie.Need-worst-case-requires
 worst-case-requires c κs = computable-bounded _ (c .before .before .pre)
 
-returns : tie.Need-returns
-returns c = search needs
-
 pub worst-of-spec : {M : Type 1} → statement M
-worst-of-spec = tie.close (tie.spec worst-case-requires returns)
+worst-of-spec = tie.close (tie.spec worst-case-requires (λ c. search needs))

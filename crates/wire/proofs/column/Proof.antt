@@ -6,18 +6,9 @@ use Rattle.wire.specs.Format.{column}
 use Rattle.wire.proofs.column.Statement.{statement}
 use Rattle.wire.proofs.column.Tie as tie
 
-enum-told : tie.Need-enum-told
-enum-told c = search needs
-
 returns : tie.Need-returns
 unfolding column
 returns c = rw (c .before .enum-told .given .1, column) (simp (eq-eqb _ _ (c .if1 .taken)))
-
-digit-requires : tie.Need-digit-requires
-digit-requires c κs = search needs
-
-enum-known-s : tie.Need-enum-known-s
-enum-known-s c = search needs
 
 returns-2 : tie.Need-returns-2
 unfolding column
@@ -25,9 +16,6 @@ returns-2 c = rw (c .before .before .s .given .1, column) (simp (eq-eqb _ _ (c .
 
 digit-requires-2 : tie.Need-digit-requires-2
 digit-requires-2 c κs = rw (c .before .before .s .given .1) at (c .before .before .before .before .pre)
-
-enum-told-2 : tie.Need-enum-told-2
-enum-told-2 c = search needs
 
 returns-3 : tie.Need-returns-3
 unfolding column
@@ -46,13 +34,13 @@ pub column-spec : {M : Type 1} → statement M
 column-spec =
     tie.close
     (tie.spec
-    enum-told
+    (λ c. search needs)
     returns
-    digit-requires
-    enum-known-s
+    (λ c κs. search needs)
+    (λ c. search needs)
     returns-2
     digit-requires-2
-    enum-told-2
+    (λ c. search needs)
     returns-3
     returns-4
     returns-5)

@@ -44,15 +44,6 @@ loop-again c =
       s .loop .inv .2 ∙ columns-next (s .loop .s) field (s .loop .i) more ∙ rw (c .column .ensures) refl,
     )
 
-enum-told : tie.Need-enum-told Inv-loop μ-loop
-enum-told c = search needs
-
-enum-known-s : tie.Need-enum-known-s Inv-loop μ-loop
-enum-known-s c = search needs
-
-enum-told-2 : tie.Need-enum-told-2 Inv-loop μ-loop
-enum-told-2 c = search needs
-
 -- the field is read to its end
 whole : (c : tie.After-loop Inv-loop μ-loop) → columns Blank (c .before .before .before .args .field .now) ≡ c .before .loop .s
 whole c =
@@ -80,9 +71,9 @@ field-in-spec =
     add-i
     loop-less
     loop-again
-    enum-told
-    enum-known-s
-    enum-told-2
+    (λ c. search needs)
+    (λ c. search needs)
+    (λ c. search needs)
     returns
     returns-2
     returns-3)

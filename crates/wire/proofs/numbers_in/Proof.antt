@@ -43,20 +43,8 @@ next c f e =
 loop-holds : tie.Need-loop-holds Inv-loop μ-loop
 loop-holds c = (omega arith, search needs, refl, before-none (numbersIn callColumns (c .before .args .line .now)))
 
-mul-to : tie.Need-mul-to Inv-loop μ-loop
-mul-to c = search needs
-
-array-read-to : tie.Need-array-read-to Inv-loop μ-loop
-array-read-to c = search needs
-
 add-to : tie.Need-add-to Inv-loop μ-loop
 add-to c = omega (arith, within c)
-
-sub-field-in : tie.Need-sub-field-in Inv-loop μ-loop
-sub-field-in c = search needs
-
-part-field-in-start : tie.Need-part-field-in-start Inv-loop μ-loop
-part-field-in-start c = search needs
 
 part-field-in-end : tie.Need-part-field-in-end Inv-loop μ-loop
 part-field-in-end c = omega (arith, within c)
@@ -66,20 +54,8 @@ field-in-requires c κs =
     let s = c .before in
     simp length-take (omega (arith, narrow (s .before .loop .i) (s .loop-test .taken)))
 
-enum-known-n : tie.Need-enum-known-n Inv-loop μ-loop
-enum-known-n c = search needs
-
-enum-told : tie.Need-enum-told Inv-loop μ-loop
-enum-told c = search needs
-
 returns : tie.Need-returns Inv-loop μ-loop
 returns c = sym (next (c .before .before) _ (c .enum-told .given .1))
-
-mul-numbers : tie.Need-mul-numbers Inv-loop μ-loop
-mul-numbers c = search needs
-
-array-write-numbers : tie.Need-array-write-numbers Inv-loop μ-loop
-array-write-numbers c = search needs
 
 add-i : tie.Need-add-i Inv-loop μ-loop
 add-i c = omega arith
@@ -113,18 +89,18 @@ numbers-in-spec =
     Inv-loop
     μ-loop
     loop-holds
-    mul-to
-    array-read-to
+    (λ c. search needs)
+    (λ c. search needs)
     add-to
-    sub-field-in
-    part-field-in-start
+    (λ c. search needs)
+    (λ c. search needs)
     part-field-in-end
     field-in-requires
-    enum-known-n
-    enum-told
+    (λ c. search needs)
+    (λ c. search needs)
     returns
-    mul-numbers
-    array-write-numbers
+    (λ c. search needs)
+    (λ c. search needs)
     add-i
     loop-less
     loop-again

@@ -32,9 +32,6 @@ long s = s .loop .inv .size ∙ length-set (s .before .before .before .args .out
 sub-i : tie.Need-sub-i Inv-loop μ-loop Inv-loop2 μ-loop2
 sub-i c = omega arith
 
-last-digit-requires : tie.Need-last-digit-requires Inv-loop μ-loop Inv-loop2 μ-loop2
-last-digit-requires c κs = search needs
-
 add-out : tie.Need-add-out Inv-loop μ-loop Inv-loop2 μ-loop2
 add-out c = omega arith
 
@@ -46,9 +43,6 @@ loop-holds c = record { within = simp length-set (omega arith); size = refl; sam
 
 sub-i-2 : tie.Need-sub-i-2 Inv-loop μ-loop Inv-loop2 μ-loop2
 sub-i-2 c = omega arith
-
-last-digit-requires-2 : tie.Need-last-digit-requires-2 Inv-loop μ-loop Inv-loop2 μ-loop2
-last-digit-requires-2 c κs = search needs
 
 add-out-2 : tie.Need-add-out-2 Inv-loop μ-loop Inv-loop2 μ-loop2
 add-out-2 c = omega (arith, long (c .before .before .before))
@@ -109,12 +103,12 @@ put-spec =
     Inv-loop2
     μ-loop2
     sub-i
-    last-digit-requires
+    (λ c κs. search needs)
     add-out
     slice-write-out
     loop-holds
     sub-i-2
-    last-digit-requires-2
+    (λ c κs. search needs)
     add-out-2
     slice-write-out-2
     loop-less

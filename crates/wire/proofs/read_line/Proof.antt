@@ -20,17 +20,11 @@ returns : tie.Need-returns
 unfolding lineRead
 returns c = simp (ne-eqb _ _ (c .if1 .taken))
 
-numbers-in-requires : tie.Need-numbers-in-requires
-numbers-in-requires c κs = search needs
-
 returns-2 : tie.Need-returns-2
 unfolding lineRead
 returns-2 c =
     let row = c .before .before .before in
     simp (eq-eqb _ _ (row .before .if1 .left)) (ap asked (sym (unread (row .numbers-in .result) (c .if2 .taken)) ∙ row .numbers-in .ensures))
-
-request-of-requires : tie.Need-request-of-requires
-request-of-requires c κs = search needs
 
 returns-3 : tie.Need-returns-3
 unfolding lineRead
@@ -43,7 +37,7 @@ read-line-spec =
     tie.close
     (tie.spec
     returns
-    numbers-in-requires
+    (λ c κs. search needs)
     returns-2
-    request-of-requires
+    (λ c κs. search needs)
     returns-3)

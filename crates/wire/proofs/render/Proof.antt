@@ -20,35 +20,8 @@ no-room a out at h = let e = lt-leb (at + answerWidth) (length out) h in (rw e r
 returns : tie.Need-returns
 returns c = let a = c .before .before .args in no-room (a .a) (a .out .now) (a .at) (omega arith)
 
-sub-if2 : tie.Need-sub-if2
-sub-if2 c = search needs
-
 returns-2 : tie.Need-returns-2
 returns-2 c = let a = c .before .before .before .args in no-room (a .a) (a .out .now) (a .at) (omega arith)
-
-add-put : tie.Need-add-put
-add-put c = search needs
-
-put-requires : tie.Need-put-requires
-put-requires c κs = search needs
-
-add-put-2 : tie.Need-add-put-2
-add-put-2 c = search needs
-
-put-requires-2 : tie.Need-put-requires-2
-put-requires-2 c κs = search needs
-
-add-put-3 : tie.Need-add-put-3
-add-put-3 c = search needs
-
-put-requires-3 : tie.Need-put-requires-3
-put-requires-3 c κs = search needs
-
-put-requires-4 : tie.Need-put-requires-4
-put-requires-4 c κs = search needs
-
-same-length : tie.Need-same-length
-same-length c = search needs
 
 returns-3 : tie.Need-returns-3
 returns-3 c =
@@ -67,14 +40,14 @@ render-spec =
     tie.close
     (tie.spec
     returns
-    sub-if2
+    (λ c. search needs)
     returns-2
-    add-put
-    put-requires
-    add-put-2
-    put-requires-2
-    add-put-3
-    put-requires-3
-    put-requires-4
-    same-length
+    (λ c. search needs)
+    (λ c κs. search needs)
+    (λ c. search needs)
+    (λ c κs. search needs)
+    (λ c. search needs)
+    (λ c κs. search needs)
+    (λ c κs. search needs)
+    (λ c. search needs)
     returns-3)
