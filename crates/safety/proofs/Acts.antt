@@ -10,6 +10,8 @@ use lib.Dec.{eqb}
 use borrow.Author.Tests.{not-false}
 use Rattle.logic.proofs.Tests.{by-test}
 use Rattle.brake.specs.declared.Figures.{Figures}
+use Rattle.brake.specs.declared.FiguresFound.the-variants.{Given}
+use Rattle.brake.specs.Consist.{figuresOf}
 use Rattle.motion.specs.declared.Motion.{Motion}
 use Rattle.motion.specs.declared.Order.{Order}
 use Rattle.motion.specs.declared.Order.the-variants.{Drive, Brake}
@@ -50,6 +52,7 @@ Slowing σ x (some zero) = Unit {0}
 Slowing σ x (some (suc n)) = (x .order ≡ Brake) × Slowed (x .figures) (σ .limits .ceiling) n (x .motion)
 
 pub record Steady (σ : Settings) (limit : Limit) (x : Told) : Type 0 where
+  pub consist : figuresOf (x .entry .load) (x .entry .length) ≡ Given (x .figures)
   pub guarded : Guarded σ limit (recordOf x)
   pub slowing : Slowing σ (recordOf x) (x .now .held)
 
@@ -115,7 +118,7 @@ module _ (σ : Settings) (limit : Limit) (x : Told) (steady : Steady σ limit x)
 
   steady-still : (a : Authority) (n : Option ℕ) → InLimit limit (a .end) → reachOf (recordOf x) ≤ a .end → Slowing σ (recordOf x) n → Steady σ limit (stays a n)
   unfolding recordOf
-  steady-still a n limited reach slow = record { guarded = guarded-still σ limit (recordOf x) (steady .guarded) a _ limited reach; slowing = go n slow }
+  steady-still a n limited reach slow = record { consist = steady .consist; guarded = guarded-still σ limit (recordOf x) (steady .guarded) a _ limited reach; slowing = go n slow }
     where
       go : (n : Option ℕ) → Slowing σ (recordOf x) n → Slowing σ (recordOf (stays a n)) n
       go none slow = tt
@@ -144,7 +147,7 @@ module _ (σ : Settings) (limit : Limit) (x : Told) (steady : Steady σ limit x)
       let g = guarded-report σ limit (recordOf x) (steady .guarded) r allows in
       record {
         told = same;
-        keeps = record { guarded = rw same g; slowing = rw same (slowing-report r allows (x .now .held) refl) };
+        keeps = record { consist = steady .consist; guarded = rw same g; slowing = rw same (slowing-report r allows (x .now .held) refl) };
         onward = allowed-head (recordOf x) r allows;
         within = (g .within .cap, g .reach-in-end);
       }

@@ -4,7 +4,7 @@ use Prim.Native.Nat.{ℕ, _<_}
 use mathlib.Core.Bool.{true}
 use mathlib.Core.Option.{none, some}
 use mathlib.Core.List.{List, [], _∷_, foldl, map-append}
-use mathlib.Core.Path.{_≡_, refl, sym, subst}
+use mathlib.Core.Path.{_≡_, refl, sym, _∙_, subst}
 use native.Mathlib.Nat.{le-refl}
 use native.Mathlib.Omega.{arith}
 use lib.Dec.{leb}
@@ -34,6 +34,7 @@ use Rattle.train.specs.Ranges.{settingsOf}
 use Rattle.train.specs.Record.{figuresFor, entering}
 use Rattle.train.specs.Track.{stepsOf}
 use Rattle.train.specs.Acts.{mayLeave}
+use Rattle.train.proofs.Records.{figures-entered}
 use Rattle.train.proofs.Track.{limit-tested}
 use Rattle.train.proofs.Checks.{first-leaves}
 use Rattle.table.specs.declared.Table.{Table}
@@ -105,7 +106,7 @@ module _ (σ : Settings) (xs : List Told) (t : Table) (A : Agrees σ xs t) where
       let now = told-accepted xs (Enter e) v in
       let new = toldEntering e (numbersOf (Accepted v)) in
       let steady : Steady (t .settings) (limitIn (t .settings) (firstLimit (t .settings)) xs (length xs)) new =
-      record { guarded = guarded-entering _ _ e k (given-sound (e .load) (e .length) k f) (leb-true _ _ (place .0)) limit; slowing = tt } in
+      record { consist = sym (figures-entered (t .settings) e) ∙ f; guarded = guarded-entering _ _ e k (given-sound (e .load) (e .length) k f) (leb-true _ _ (place .0)) limit; slowing = tt } in
       record {
         settings = A .settings;
         sized = sized-last t _ (A .sized) free;

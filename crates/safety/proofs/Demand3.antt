@@ -39,7 +39,7 @@ module _ (o : Opening) (limit : Limit) (x : Told) (t : Steady (settingsOf o) lim
 
   alone : Alone o x
   unfolding recordOf
-  alone = record { rear-on-line = t .guarded .rear-on-line; head-within-end = head-end; held-stands = held-stands }
+  alone = record { consist = t .consist; rear-on-line = t .guarded .rear-on-line; head-within-end = head-end; held-stands = held-stands }
 
   -- the first train, and one behind another
   end-first : limit ≡ firstLimit (settingsOf o) → Separate o none x

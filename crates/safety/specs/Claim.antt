@@ -6,6 +6,8 @@ use mathlib.Core.Bool.{Bool, true, false}
 use mathlib.Core.Option.{Option, none, some}
 use mathlib.Core.List.{List, [], _∷_, map}
 use lib.ListN.{length}
+use Rattle.brake.specs.declared.FiguresFound.the-variants.{Given}
+use Rattle.brake.specs.Consist.{figuresOf}
 use Rattle.motion.specs.Motion.{stands}
 use Rattle.motion.specs.Count.{cyclesToStand}
 use Rattle.calls.specs.declared.Opening.{Opening}
@@ -25,8 +27,10 @@ heldReports o x = 1 + cyclesToStand (x .figures) (o .ceiling)
 abbrev pub Stands : Told → Type 0
 Stands x = stands (x .figures) (x .now .speed) (x .now .level) ≡ true
 
--- of each train by itself: its rear is on the line, its head is at or before its end, and held with so many reports it stands
+-- of each train by itself: its figures are those of its load class and length, its rear is on the line, its head is at or before its end,
+-- and held with so many reports it stands
 pub record Alone (o : Opening) (x : Told) : Type 0 where
+  pub consist : figuresOf (x .entry .load) (x .entry .length) ≡ Given (x .figures)
   pub rear-on-line : stepsOf (x .entry .length) ≤ x .now .head
   pub head-within-end : x .now .head ≤ x .now .authority .end
   pub held-stands : (n : ℕ) → x .now .held ≡ some n → heldReports o x ≤ n → Stands x
