@@ -2,13 +2,12 @@
 -- Assumes nothing.
 use Prim.Native.Nat.{ℕ, _+_}
 use mathlib.Core.Bool.{Bool, true, false}
-use mathlib.Core.Logic.{_⊎_, inl, inr, _↔_, by-cases}
+use mathlib.Core.Logic.{_⊎_, inl, inr, _↔_}
 use mathlib.Core.Option.{Option, none, some}
 use mathlib.Core.Path.{_≡_, refl, sym, ap, _∙_, subst}
-use native.Mathlib.Decide.{ℕ-discrete}
 use native.Mathlib.Omega.{arith}
-use lib.Dec.{leb}
-use borrow.Author.Tests.{le-ltb}
+use lib.Dec.{leb, eqb}
+use borrow.Author.Tests.{le-ltb, eqb-false, not-false}
 use Rattle.logic.proofs.Tests.{by-test, not-both}
 use Rattle.brake.specs.declared.FiguresFound.the-variants.{Given}
 use Rattle.brake.specs.Consist.{Sound, figuresOf}
@@ -32,7 +31,9 @@ use Rattle.calls.specs.declared.Refusal.the-variants.{NoTrain, NoTrack}
 use Rattle.calls.specs.declared.Answer.the-variants.{Accepted, Refused}
 use Rattle.calls.specs.declared.Values.the-variants.{Entered, Ordered, Extended, Zeros}
 use Rattle.calls.specs.Answers.{numbers, numbersOf}
+use Rattle.calls.specs.Checks.{firstOf}
 use Rattle.calls.proofs.Answers.{accepted-0}
+use Rattle.calls.proofs.Checks.{passed}
 use Rattle.train.specs.declared.Authority.{Authority}
 use Rattle.train.specs.declared.Train.{Train}
 use Rattle.train.specs.Ranges.{requestInRange}
@@ -40,9 +41,9 @@ use Rattle.train.specs.Record.{authorised}
 use Rattle.train.specs.Track.{withinLimit}
 use Rattle.train.specs.Report.{motionAfter, goalOf, orderAfter, reported, reportAllowed}
 use Rattle.train.specs.declared.Verdict.{Verdict}
-use Rattle.train.specs.Acts.{isOld, granted}
-use Rattle.train.specs.Decide.{extending, decide, verdict}
-use Rattle.train.proofs.Verdicts.{report-refused, report-taken, extend-bad, extend-old, extend-other, extend-repeat, extend-beyond, extend-new}
+use Rattle.train.specs.Acts.{isRepeat, isOld, granted}
+use Rattle.train.specs.Decide.{Ruling, extending, decide, verdictBy, verdict}
+use Rattle.train.proofs.Verdicts.{report-refused, report-taken, extend-repeat, extend-beyond, extend-new}
 use Rattle.train.proofs.Records.{WorksWith, settings-given, figures-entered, computable-bounded, report-passed, held-brakes, free-order, may-order}
 use Rattle.table.specs.declared.Table.{Table}
 use Rattle.table.specs.declared.Change.the-variants.{Stay, Put}
@@ -213,32 +214,24 @@ module _ (t : Table) (id i : ℕ) (x : Train) (found : placeOf t id ≡ some i) 
   abbrev mine : Authority
   mine = x .authority
 
-  abbrev ruled : Verdict
-  ruled = verdict (extending (t .settings) (limitAt t i) x q)
-
-  -- the answer to it is no other one
-  other : {A : Type 0} (v : Verdict) → step t call .answer ≡ Accepted (Extended e false) → ruled ≡ v → (placed i v .answer ≡ Accepted (Extended e false) → ⊥) → A
-  other v answered same differs = absurd (differs (sym (own-answer t id i x found here (Extend q) v same) ∙ answered))
+  abbrev ruled : Ruling
+  ruled = extending (t .settings) (limitAt t i) x q
 
   new-passed : step t call .answer ≡ Accepted (Extended e false) → New t i mine q
-  new-passed p =
-      let σ = t .settings in
-      let limit = limitAt t i in
-      by-test (requestInRange σ q)
-      (λ ranged.
-      by-test (isOld mine q)
-      (λ old. other _ p (extend-old σ x limit q ranged old) (λ p. let z : _≡_ {A = ℕ} 0 1 = cc in omega arith))
-      (λ fresh.
-      by-cases (ℕ-discrete (q .number) (mine .number))
-      (λ same.
-      by-cases (ℕ-discrete (q .length) (mine .asked))
-      (λ again. other _ p (extend-repeat σ x limit q ranged fresh same again) (λ p. let z : _≡_ {A = ℕ} 0 1 = cc in omega arith))
-      (λ differs. other _ p (extend-other σ x limit q ranged fresh same differs) (λ p. let z : _≡_ {A = ℕ} 0 1 = cc in omega arith)))
-      (λ new.
-      by-test (withinLimit limit (mine .end + q .length))
-      (λ within. record { ranged = ranged; fresh = fresh; new = new; within = within })
-      (λ beyond. other _ p (extend-beyond σ x limit q ranged fresh new beyond) (λ p. let z : _≡_ {A = ℕ} 0 1 = cc in omega arith)))))
-      (λ bad. other _ p (extend-bad σ x limit q bad) (λ p. let z : _≡_ {A = ℕ} 0 1 = cc in omega arith))
+  unfolding isRepeat
+  new-passed p = go (firstOf (ruled .checks)) refl
+    where
+      go : (o : Option Refusal) → firstOf (ruled .checks) ≡ o → New t i mine q
+      go none f =
+          let answer = own-answer t id i x found here (Extend q) _ (ap (λ (o : Option Refusal). verdictBy o ruled) f) in
+          let new : eqb (q .number) (mine .number) ≡ false = cc in
+          let range = passed _ _ _ f in
+          let old = passed _ _ _ (range .1) in
+          let last = passed _ _ _ (passed _ _ _ (old .1) .1) in
+          record { ranged = not-false _ (range .0); fresh = old .0; new = eqb-false _ _ new; within = not-false _ (rw new at (last .0)) }
+      go (some r) f =
+          let answer = own-answer t id i x found here (Extend q) _ (ap (λ (o : Option Refusal). verdictBy o ruled) f) in
+          let z : _≡_ {A = ℕ} 0 1 = cc in absurd (omega arith)
 
   abbrev longer : Train
   longer = authorised x (granted mine q)

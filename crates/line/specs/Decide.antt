@@ -5,6 +5,7 @@ use mathlib.Core.Bool.{not, _&&_}
 use mathlib.Core.Option.{Option, none, some}
 use mathlib.Core.List.{List, [], _∷_}
 use lib.Dec.{leb}
+use Rattle.logic.specs.Options.{isSome}
 use Rattle.ranges.specs.Ranges.{idInRange, startInRange}
 use Rattle.brake.specs.declared.FiguresFound.{FiguresFound}
 use Rattle.brake.specs.declared.FiguresFound.the-variants.{Given, NoFigures}
@@ -28,7 +29,7 @@ use Rattle.train.specs.Decide.{Ruling, decide}
 use Rattle.table.specs.declared.Table.{Table}
 use Rattle.table.specs.declared.Change.{Change}
 use Rattle.table.specs.declared.Change.the-variants.{Stay, Put, Add, DropFirst, Anew}
-use Rattle.table.specs.Table.{places, placeOf, isFound, trainAt, limitAt}
+use Rattle.table.specs.Table.{places, placeOf, trainAt, limitAt}
 use Rattle.line.specs.declared.Decision.{Decision}
 
 -- A refusal gives its number and zeros; the whole table stays.
@@ -51,7 +52,7 @@ openDecision o = judged (firstOf (check (not (settingsInRange o)) BadSetting ∷
 abbrev pub enterChecks : Table → Entry → List Check
 enterChecks t e =
     check (not (idInRange (e .id) && startInRange (e .start))) BadEntry
-    ∷ check (isFound (placeOf t (e .id))) OnLine
+    ∷ check (isSome (placeOf t (e .id))) OnLine
     ∷ check (leb places (t .count)) LineFull
     ∷ check (not (leb (stepsOf (e .length)) (e .head) && withinLimit (limitAt t (t .count)) (e .head))) BadHead
     ∷ []

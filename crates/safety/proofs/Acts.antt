@@ -8,6 +8,7 @@ use native.Mathlib.Nat.{le-refl}
 use native.Mathlib.Omega.{arith}
 use lib.Dec.{eqb}
 use borrow.Author.Tests.{not-false}
+use Rattle.logic.specs.Options.{isSome}
 use Rattle.logic.proofs.Tests.{by-test}
 use Rattle.brake.specs.declared.Figures.{Figures}
 use Rattle.brake.specs.declared.FiguresFound.the-variants.{Given}
@@ -40,7 +41,7 @@ use Rattle.train.proofs.Records.{held-brakes}
 use Rattle.train.proofs.Track.{InLimit, limit-tested, limit-below}
 use Rattle.train.proofs.Checks.{report-allowed, call-back-allowed, allowed-head, allowed-no-worse}
 use Rattle.safety.specs.History.{Told, levelAfter, orderIn, longer, still, toldAct}
-use Rattle.safety.specs.Claim.{isHeld, recordOf}
+use Rattle.safety.specs.Claim.{recordOf}
 use Rattle.safety.proofs.Train.{Guarded, guarded-report, guarded-still}
 
 -- ---- the invariant of a train that the history tells of
@@ -68,7 +69,7 @@ level-worst k m (Drive c) = refl
 level-worst k m Brake = refl
 
 -- a report leaves the mark
-still-held : (n : Option ℕ) → isHeld (Option·map suc n) ≡ isHeld n
+still-held : (n : Option ℕ) → isSome (Option·map suc n) ≡ isSome n
 still-held none = refl
 still-held (some n) = refl
 

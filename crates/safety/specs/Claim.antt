@@ -2,10 +2,11 @@
 -- tells of.
 use Prim.Native.Nat.{ℕ, _+_, _≤_}
 use mathlib.Core.Path.{_≡_}
-use mathlib.Core.Bool.{Bool, true, false}
+use mathlib.Core.Bool.{true}
 use mathlib.Core.Option.{Option, none, some}
 use mathlib.Core.List.{List, [], _∷_, map}
 use lib.ListN.{length}
+use Rattle.logic.specs.Options.{isSome}
 use Rattle.brake.specs.declared.FiguresFound.the-variants.{Given}
 use Rattle.brake.specs.Consist.{figuresOf}
 use Rattle.motion.specs.Motion.{stands}
@@ -55,15 +56,11 @@ Claim o es = Safe o none (told es)
 
 -- ---- the table that a history tells of
 
-abbrev pub isHeld : Option ℕ → Bool
-isHeld none = false
-isHeld (some n) = true
-
 -- the record of a train on the line, part by part
 unfoldable pub recordOf : Told → Train
 recordOf x =
     trainOf (x .entry .id) (x .entry .length) (x .figures) (record { head = x .now .head; speed = x .now .speed; level = x .now .level })
-    (x .now .order) (x .now .authority) (record { held = isHeld (x .now .held) })
+    (x .now .order) (x .now .authority) (record { held = isSome (x .now .held) })
 
 -- Demand 3 for one list of calls on the table t that the opening o made: the claim holds of the history, and the table after it is what
 -- the history tells (proofs/Demand3: demand-3).

@@ -2,7 +2,7 @@
 use Prim.Native.Nat.{ℕ, zero, suc, _+_, _≤_, _<_}
 use native.Mathlib.Omega.{arith}
 use mathlib.Core.Path.{_≡_, refl, sym, ap, _∙_}
-use mathlib.Core.Bool.{Bool, true, false, cond}
+use mathlib.Core.Bool.{Bool, true, false}
 use mathlib.Core.List.{List, [], _∷_, _++_, append-assoc, append-nil}
 use lib.Dec.{eqb, leb}
 use lib.ListN.{length, take, drop, getD, length-take, take-append-drop}
@@ -39,10 +39,6 @@ standing s g w bs = record { session = after s (lines g bs); begins = kept (rest
 
 -- ---- what is decided of a line
 
-either-way : (P : Decision → Type 0) (b : Bool) (x y : Decision) → P x → P y → P (cond b x y)
-either-way P true x y p q = p
-either-way P false x y p q = q
-
 request-fits : (t : Table) → length (t .trains) ≡ places → (r : Request) → Fits t (decideOn t r .change)
 unfolding decideOn
 request-fits t size (Open o) = open-fits t o
@@ -51,7 +47,7 @@ request-fits t size (OnTable c) = decided-fits t size c
 -- the table has the place that the change needs
 pub line-fits : (s : Session) → length (s .table .trains) ≡ places → (r : RequestRead) (d : Decision) → d ≡ lineDecision s r → Fits (s .table) (d .change)
 unfolding lineDecision
-line-fits s size (Read r) d e = rw e (either-way (λ q. Fits (s .table) (q .change)) (outOfTurn (s .opened) r) _ _ tt (request-fits (s .table) size r))
+line-fits s size (Read r) d e = rw e (by-test (outOfTurn (s .opened) r) (λ q. rw q tt) (λ q. rw q (request-fits (s .table) size r)))
 line-fits s size Unreadable d e = rw e tt
 
 -- ---- of a line that is too long the kept bytes are enough

@@ -13,13 +13,14 @@ use lib.Dec.{eqb}
 use lib.ListN.{length, take, drop, getD, set, length-take, length-drop, length-map, drop-of-length-le}
 use lib.Seq.{drop-cons, getD-take, getD-drop, getD-set-same, set-getD, take-nil, take-suc, take-all, take-set-lt, set-at, append-snoc, length-take-le}
 use borrow.Author.Tests.{eq-eqb, ne-eqb}
+use Rattle.logic.specs.Options.{isSome}
 use Rattle.logic.proofs.Tests.{by-test}
 use Rattle.train.specs.declared.Train.{Train}
 use Rattle.train.specs.declared.Limit.{Limit}
 use Rattle.table.specs.declared.Table.{Table}
 use Rattle.table.specs.declared.Found.the-variants.{At, Nothing}
 use Rattle.table.specs.declared.Change.the-variants.{Put}
-use Rattle.table.specs.Table.{blankTrain, onLine, placeIn, placeOf, isFound, trainAt, limitAt, changed, found}
+use Rattle.table.specs.Table.{blankTrain, onLine, placeIn, placeOf, trainAt, limitAt, changed, found}
 
 -- what is known of a parameter's array speaks of the list mapped to the elements' machine form
 pub long : (X : Type 0) (f : Train → X) (l : List Train) (n : ℕ) → length (map f l) ≡ n → length l ≡ n
@@ -81,7 +82,7 @@ found-below t id i e =
     let n = length-take (t .count) (t .trains) in
     omega arith
 
-pub not-found : (f : Option ℕ) → isFound f ≡ false → f ≡ none
+pub not-found : (f : Option ℕ) → isSome f ≡ false → f ≡ none
 not-found (some i) e = let z : _≡_ {A = ℕ} 0 1 = cc in absurd (omega arith)
 not-found none e = refl
 

@@ -1,6 +1,6 @@
 -- The table of trains: 32 places, of which the first `count` hold the trains on the line, front train first.
 use Prim.Native.Nat.{ℕ, zero, suc, _+_, _-_, _<_}
-use mathlib.Core.Bool.{Bool, true, false, cond}
+use mathlib.Core.Bool.{cond}
 use mathlib.Core.Option.{Option, none, some}
 use mathlib.Core.List.{List, [], _∷_, _++_}
 use lib.Dec.{eqb}
@@ -40,10 +40,6 @@ placeIn (x ∷ xs) id i = cond (eqb (x .id) id) (some i) (placeIn xs id (suc i))
 
 unfoldable pub placeOf : Table → ℕ → Option ℕ
 placeOf t id = placeIn (onLine t) id 0
-
-abbrev pub isFound : Option ℕ → Bool
-isFound (some i) = true
-isFound none = false
 
 abbrev pub trainAt : Table → ℕ → Train
 trainAt t i = getD (t .trains) i blankTrain
