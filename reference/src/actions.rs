@@ -4,8 +4,9 @@
 use crate::brake::STEPS_PER_FOOT;
 use crate::call::{Call, Entry};
 use crate::line::{Line, LAST_ID, LAST_NUMBER};
-use crate::scene::{Scene, WIDEST};
+use crate::scene::Scene;
 use crate::train::Train;
+use crate::wire::WIDEST;
 
 impl Scene {
     /// One action of any kind, for a train on the line or to come.

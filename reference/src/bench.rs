@@ -4,7 +4,6 @@
 use crate::brake::{LONGEST_FEET, STEPS_PER_FOOT};
 use crate::call::{Call, Entry, Settings};
 use crate::convoy::Convoy;
-use crate::fault::Fault;
 use crate::line::{GREATEST_CEILING, GREATEST_TRACTION, LONGEST_LINE};
 use crate::motion::Order;
 use crate::scene::{Profile, Scene};
@@ -60,7 +59,7 @@ pub fn worst_bound(count: usize) -> Measured {
     scene.report(&train, train.motion.head, speed);
     let train = scene.trains()[0];
     let half = Order::Drive(GREATEST_TRACTION / 2 + 1);
-    let place = train.motion.reach(half, train.brake, Fault::None);
+    let place = train.motion.reach(half, train.brake);
     scene.call(Call::CallBack { id, place });
     scene.call(Call::Lift { id });
     measure_reports(&mut scene, count)
@@ -72,7 +71,7 @@ fn scene() -> Scene {
         most_trains: 1,
         spoilt: 0,
     };
-    Scene::new(1, profile, Fault::None)
+    Scene::new(1, profile)
 }
 
 /// One train that has just come to the greatest speed at which the whole

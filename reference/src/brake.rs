@@ -1,7 +1,5 @@
 //! Brake figures from the consist: load class and length.
 
-use crate::fault::Fault;
-
 pub const LONGEST_FEET: u64 = 10_000;
 pub const STEPS_PER_FOOT: u64 = 6_096_000;
 
@@ -17,16 +15,13 @@ pub struct Brake {
 
 impl Brake {
     /// None where document 01 refuses the length or the load class.
-    pub fn of_consist(feet: u64, class: u64, fault: Fault) -> Option<Brake> {
+    pub fn of_consist(feet: u64, class: u64) -> Option<Brake> {
         if !(1..=LONGEST_FEET).contains(&feet) {
             return None;
         }
-        let full = full_brake(class, fault)?;
-        let cycles = application_cycles(feet, fault);
-        let growth = match fault {
-            Fault::GrowthUp => full.div_ceil(cycles),
-            _ => full / cycles,
-        };
+        let full = full_brake(class)?;
+        let cycles = application_cycles(feet);
+        let growth = full / cycles;
         Some(Brake { full, growth })
     }
 
@@ -41,11 +36,10 @@ impl Brake {
     }
 }
 
-pub fn full_brake(class: u64, fault: Fault) -> Option<u64> {
+pub fn full_brake(class: u64) -> Option<u64> {
     let (force, mass) = match class {
         1 => (35_750, 263_000),
         2 => (10_575, 64_000),
-        3 if fault == Fault::UnknownLoadEmptyMass => (23_338, 64_000),
         3 => (23_338, 263_000),
         _ => return None,
     };
@@ -53,11 +47,7 @@ pub fn full_brake(class: u64, fault: Fault) -> Option<u64> {
 }
 
 /// Cycles until the full brake is reached, for a length in feet.
-pub fn application_cycles(feet: u64, fault: Fault) -> u64 {
+pub fn application_cycles(feet: u64) -> u64 {
     let nanoseconds = 12_220_000_000 + 15_600_000 * feet + 278 * feet * feet;
-    match fault {
-        Fault::ApplicationTimeDown => nanoseconds / NANOSECONDS_PER_CYCLE,
-        Fault::FiftySeconds => 500,
-        _ => nanoseconds.div_ceil(NANOSECONDS_PER_CYCLE),
-    }
+    nanoseconds.div_ceil(NANOSECONDS_PER_CYCLE)
 }

@@ -1,4 +1,65 @@
-//! The calls of document 01 and their answers, as plain values.
+//! The calls of document 01 and their answers, as plain values. Here alone
+//! stand the codes and the answer numbers.
+
+/// An enum of numbered cases, with the list of them all.
+macro_rules! numbered {
+    (
+        $(#[$about:meta])*
+        $name:ident
+        $($(#[$case_about:meta])* $case:ident = $number:literal,)*
+    ) => {
+        $(#[$about])*
+        #[derive(Clone, Copy, Debug, PartialEq, Eq)]
+        pub enum $name {
+            $($(#[$case_about])* $case = $number,)*
+        }
+
+        impl $name {
+            pub const ALL: &'static [$name] = &[$($name::$case,)*];
+
+            pub const fn number(self) -> u64 {
+                self as u64
+            }
+        }
+    };
+}
+
+numbered! {
+    /// The code of a call.
+    Code
+    Open = 1,
+    Enter = 2,
+    Report = 3,
+    Extend = 4,
+    CallBack = 5,
+    Hold = 6,
+    Lift = 7,
+    TakeOff = 8,
+}
+
+numbered! {
+    /// Why a call is refused.
+    Refusal
+    Unreadable = 1,
+    /// A call before the opening, or a second opening.
+    OutOfTurn = 2,
+    Setting = 3,
+    /// An id, a consist or a starting number out of range.
+    Entry = 4,
+    KnownId = 5,
+    LineFull = 6,
+    EnteringHead = 7,
+    NoSuchTrain = 8,
+    ReportNotAllowed = 9,
+    /// A request number or a length out of range.
+    Request = 10,
+    OldNumber = 11,
+    OtherLength = 12,
+    BeyondLimit = 13,
+    Place = 14,
+    /// Not first, or not standing under brake.
+    NotLeaving = 15,
+}
 
 /// What an opening gives.
 #[derive(Clone, Copy, Debug, PartialEq, Eq)]
@@ -31,6 +92,21 @@ pub enum Call {
     TakeOff { id: u64 },
 }
 
+impl Call {
+    pub fn code(&self) -> Code {
+        match self {
+            Call::Open(_) => Code::Open,
+            Call::Enter(_) => Code::Enter,
+            Call::Report { .. } => Code::Report,
+            Call::Extend { .. } => Code::Extend,
+            Call::CallBack { .. } => Code::CallBack,
+            Call::Hold { .. } => Code::Hold,
+            Call::Lift { .. } => Code::Lift,
+            Call::TakeOff { .. } => Code::TakeOff,
+        }
+    }
+}
+
 /// An answer number and its three values, zeros with a refusal.
 #[derive(Clone, Copy, Debug, PartialEq, Eq)]
 pub struct Answer {
@@ -45,9 +121,9 @@ impl Answer {
         Answer { number: 0, values }
     }
 
-    pub const fn refused(number: u64) -> Answer {
+    pub const fn refused(why: Refusal) -> Answer {
         Answer {
-            number,
+            number: why.number(),
             values: [0; 3],
         }
     }

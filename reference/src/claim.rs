@@ -1,12 +1,14 @@
-//! Demand 3's claim, checked from calls and their answers alone. Nothing here
-//! reads the table of an implementation.
+//! Demand 3's claim, and what document 01 says of the answers to reports,
+//! checked from calls and their answers alone. Nothing here reads the table of
+//! an implementation: what a train was ordered is what it was answered.
 
 use crate::brake::{Brake, STEPS_PER_FOOT};
 use crate::call::{Answer, Call, Entry, Settings};
-use crate::fault::Fault;
+use crate::motion::{Motion, Order};
 use crate::wire::{lines, read_answer, read_call, whole_line};
 
-/// The claim does not hold after this line, counted from 1.
+/// The claim does not hold after this line, or its answer is wrong. Lines are
+/// counted from 1.
 #[derive(Clone, Debug, PartialEq, Eq)]
 pub struct Broken {
     pub line: usize,
@@ -22,7 +24,7 @@ pub struct Reached {
     pub moving: u64,
 }
 
-/// Checks the claim after every line of a session.
+/// Checks the claim after every line of a session, and its answer.
 pub fn check(input: &[u8], output: &[u8]) -> Result<Reached, Broken> {
     let mut history = History::default();
     for (index, (line, answer)) in lines(input).zip(lines(output)).enumerate() {
@@ -38,8 +40,10 @@ pub fn check(input: &[u8], output: &[u8]) -> Result<Reached, Broken> {
 struct Stay {
     id: u64,
     steps: u64,
-    head: u64,
-    speed: u64,
+    brake: Brake,
+    motion: Motion,
+    /// The last order, as answered.
+    order: Order,
     end: u64,
     number: u64,
     held: Option<Held>,
@@ -54,8 +58,65 @@ struct Held {
 
 impl Stay {
     fn rear(&self) -> Result<u64, String> {
-        let rear = self.head.checked_sub(self.steps);
+        let rear = self.motion.head.checked_sub(self.steps);
         rear.ok_or_else(|| format!("the rear of train {} is before the line", self.id))
+    }
+
+    /// Takes an accepted report, and tells whether the last order allowed it.
+    fn move_to(&mut self, head: u64, speed: u64) -> Result<(), String> {
+        let last = self.motion;
+        let worst = last.worst(self.order, self.brake);
+        self.motion = Motion {
+            head,
+            speed,
+            level: worst.level,
+        };
+        let why = if head < last.head {
+            "is behind its last head"
+        } else if head > worst.head {
+            "is beyond the worst case of its order"
+        } else if speed > worst.speed {
+            "is faster than the worst case of its order"
+        } else {
+            return Ok(());
+        };
+        Err(format!("train {} {why}", self.id))
+    }
+
+    /// Counts a report under hold. Once the hold has lasted for the counted
+    /// ones, gives whether it found the train moving.
+    fn count_report(&mut self) -> Option<bool> {
+        let held = self.held.as_mut()?;
+        held.reports += 1;
+        (held.reports == self.held_count).then_some(held.moving)
+    }
+
+    /// Takes the answered order, and tells whether a train in this place may
+    /// have it. The reach comes last, since a made-up speed has no short one.
+    fn obey(&mut self, answer: Answer, settings: Settings) -> Result<(), String> {
+        let id = self.id;
+        let [number, cap, reach] = answer.values;
+        let order = Order::of_numbers([number, cap])
+            .ok_or_else(|| format!("train {id} is answered {number}, {cap}: no order"))?;
+        self.order = order;
+        if let Order::Drive(cap) = order {
+            if self.held.is_some() {
+                return Err(format!("train {id} is held, but may drive"));
+            }
+            if cap > settings.traction || self.motion.speed + cap > settings.ceiling {
+                return Err(format!("train {id} may drive with too great a cap, {cap}"));
+            }
+        }
+        let own = self.motion.reach(order, self.brake);
+        if reach != own {
+            return Err(format!(
+                "the reach of train {id} is {own} by its order, answered as {reach}"
+            ));
+        }
+        if reach > self.end {
+            return Err(format!("the reach of train {id} is past its end"));
+        }
+        Ok(())
     }
 }
 
@@ -77,10 +138,12 @@ impl History {
             return Ok(());
         }
         let call = whole_line(line)
-            .and_then(|line| read_call(line, Fault::None))
+            .and_then(read_call)
             .ok_or("an unreadable line is accepted")?;
-        self.accept(call, answer)?;
-        self.check()
+        // The claim first: where it is broken, the answer is wrong as well.
+        let answered = self.accept(call, answer);
+        self.check()?;
+        answered
     }
 
     fn accept(&mut self, call: Call, answer: Answer) -> Result<(), String> {
@@ -90,8 +153,8 @@ impl History {
                 self.stays.clear();
                 Ok(())
             }
-            Call::Enter(entry) => self.enter(entry),
-            Call::Report { id, head, speed } => self.report(id, head, speed),
+            Call::Enter(entry) => self.enter(entry, answer),
+            Call::Report { id, head, speed } => self.report(id, head, speed, answer),
             Call::Extend { id, number, length } => self.extend(id, number, length, answer),
             Call::CallBack { id, place } => {
                 self.stay(id)?.end = place;
@@ -99,7 +162,7 @@ impl History {
             }
             Call::Hold { id } => {
                 let stay = self.stay(id)?;
-                let moving = stay.speed > 0;
+                let moving = stay.motion.speed > 0;
                 stay.held.get_or_insert(Held { reports: 0, moving });
                 Ok(())
             }
@@ -115,9 +178,9 @@ impl History {
         }
     }
 
-    fn enter(&mut self, entry: Entry) -> Result<(), String> {
+    fn enter(&mut self, entry: Entry, answer: Answer) -> Result<(), String> {
         let settings = self.settings.ok_or("an entering before the opening")?;
-        let brake = Brake::of_consist(entry.feet, entry.class, Fault::None)
+        let brake = Brake::of_consist(entry.feet, entry.class)
             .ok_or("an entering out of range is accepted")?;
         if self.stays.iter().any(|stay| stay.id == entry.id) {
             return Err(format!("train {} is on the line twice", entry.id));
@@ -125,30 +188,39 @@ impl History {
         self.stays.push(Stay {
             id: entry.id,
             steps: entry.feet * STEPS_PER_FOOT,
-            head: entry.head,
-            speed: 0,
+            brake,
+            motion: Motion {
+                head: entry.head,
+                speed: 0,
+                level: brake.full,
+            },
+            order: Order::Brake,
             end: entry.head,
             number: entry.start,
             held: None,
             held_count: brake.held_count(settings.ceiling),
         });
+        let figures = [brake.full, brake.growth, entry.head];
+        if answer.values != figures {
+            return Err(format!(
+                "the figures of train {} are {figures:?} by its entering, answered as {:?}",
+                entry.id, answer.values
+            ));
+        }
         Ok(())
     }
 
-    fn report(&mut self, id: u64, head: u64, speed: u64) -> Result<(), String> {
+    fn report(&mut self, id: u64, head: u64, speed: u64, answer: Answer) -> Result<(), String> {
+        let settings = self.settings.ok_or("a report before the opening")?;
         let stay = self.stay(id)?;
-        stay.head = head;
-        stay.speed = speed;
-        let Some(held) = &mut stay.held else {
-            return Ok(());
-        };
-        held.reports += 1;
-        if held.reports == stay.held_count {
-            let moving = u64::from(held.moving);
+        let allowed = stay.move_to(head, speed);
+        let lasted = stay.count_report();
+        let answered = allowed.and_then(|()| stay.obey(answer, settings));
+        if let Some(moving) = lasted {
             self.reached.holds += 1;
-            self.reached.moving += moving;
+            self.reached.moving += u64::from(moving);
         }
-        Ok(())
+        answered
     }
 
     /// A number above the last accepted or starting one adds its length.
@@ -182,7 +254,7 @@ impl History {
         let mut nearest_rear = u64::MAX;
         for stay in &self.stays {
             // The nearest of all rears, since no two trains may overlap.
-            if stay.head > nearest_rear {
+            if stay.motion.head > nearest_rear {
                 return Err(format!("train {} overlaps an earlier one", stay.id));
             }
             nearest_rear = nearest_rear.min(stay.rear()?);
@@ -195,7 +267,7 @@ impl History {
 }
 
 fn check_end(stay: &Stay, ahead: Option<&Stay>, settings: Settings) -> Result<(), String> {
-    if stay.head > stay.end {
+    if stay.motion.head > stay.end {
         return Err(format!("the head of train {} is past its end", stay.id));
     }
     let Some(ahead) = ahead else {
@@ -217,7 +289,7 @@ fn check_held(stay: &Stay) -> Result<(), String> {
     let Some(held) = &stay.held else {
         return Ok(());
     };
-    if held.reports >= stay.held_count && stay.speed > 0 {
+    if held.reports >= stay.held_count && stay.motion.speed > 0 {
         return Err(format!(
             "train {} moves after {} reports under hold",
             stay.id, held.reports

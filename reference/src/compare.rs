@@ -1,8 +1,8 @@
 //! Runs the program under test and compares it with the second implementation.
 
-use crate::call::{Answer, Call, Settings};
+use crate::call::{Answer, Call, Code, Refusal, Settings};
 use crate::claim::{self, Reached};
-use crate::fault::Fault;
+use crate::motion::Order;
 use crate::session;
 use crate::wire::{lines, read_answer, read_call, whole_line};
 use std::io::{Read, Write};
@@ -12,9 +12,10 @@ use std::sync::mpsc::{self, RecvTimeoutError};
 use std::thread;
 use std::time::Duration;
 
-pub const ANSWERS: usize = 16;
-/// Call codes 1 to 8, and 0 for unreadable lines.
-pub const CODES: usize = 9;
+/// Answer numbers, acceptance among them.
+pub const ANSWERS: usize = 1 + Refusal::ALL.len();
+/// Call codes, and 0 for unreadable lines.
+pub const CODES: usize = 1 + Code::ALL.len();
 
 /// A program that takes longer for one list is stopped, and so fails.
 const PATIENCE: Duration = Duration::from_secs(60);
@@ -109,11 +110,11 @@ pub struct Counts {
 
 impl Orders {
     fn add(&mut self, answer: Answer, speed: u64, settings: Settings) {
-        let [order, cap, _] = answer.values;
+        let [number, cap, _] = answer.values;
         let highest = settings.traction.min(settings.ceiling - speed);
-        match order {
-            1 if cap == highest => self.free += 1,
-            1 => self.bound += 1,
+        match Order::of_numbers([number, cap]) {
+            Some(Order::Drive(cap)) if cap == highest => self.free += 1,
+            Some(Order::Drive(_)) => self.bound += 1,
             _ => self.brake += 1,
         }
     }
@@ -124,8 +125,8 @@ impl Counts {
         self.answers.iter().map(|row| row[number]).sum()
     }
 
-    pub fn by_code(&self, code: usize) -> u64 {
-        self.answers[code].iter().sum()
+    pub fn by_code(&self, code: Code) -> u64 {
+        self.answers[code as usize].iter().sum()
     }
 
     fn add_list(&mut self, input: &[u8], expected: &[u8], reached: Reached) {
@@ -134,12 +135,11 @@ impl Counts {
         self.lists_held_moving += u64::from(reached.moving > 0);
         let mut settings = None;
         for (line, answer) in lines(input).zip(lines(expected)) {
-            let call = whole_line(line).and_then(|line| read_call(line, Fault::None));
+            let call = whole_line(line).and_then(read_call);
             let Some(answer) = whole_line(answer).and_then(read_answer) else {
                 continue;
             };
-            // A readable line has its code in the second column.
-            let code = call.map_or(0, |_| usize::from(line[1] - b'0'));
+            let code = call.map_or(0, |call| call.code() as usize);
             self.lines += 1;
             self.answers[code][answer.number as usize] += 1;
             if let Some(call) = call.filter(|_| answer.is_accepted()) {
@@ -163,7 +163,7 @@ impl Counts {
 
 /// Compares an output with the second implementation and checks the claim.
 pub fn check(input: &[u8], output: &[u8], counts: &mut Counts) -> Result<(), Failure> {
-    let expected = session::run(input, Fault::None);
+    let expected = session::run(input);
     if let Some(failure) = first_difference(&expected, output) {
         return Err(failure);
     }
@@ -187,7 +187,7 @@ pub fn first_difference(expected: &[u8], found: &[u8]) -> Option<Failure> {
 }
 
 fn broken_claim(broken: claim::Broken, expected: &[u8], found: &[u8]) -> Failure {
-    let why = format!("the claim of demand 3 is broken: {}", broken.why);
+    let why = format!("calls and answers alone show: {}", broken.why);
     failure(broken.line - 1, &why, expected, found)
 }
 

@@ -3,7 +3,6 @@
 use crate::brake::{LONGEST_FEET, STEPS_PER_FOOT};
 use crate::call::{Call, Entry, Settings};
 use crate::convoy::Convoy;
-use crate::fault::Fault;
 use crate::line::{
     GREATEST_CEILING, GREATEST_SAFETY, GREATEST_TRACTION, LAST_NUMBER, LONGEST_LINE, MOST_TRAINS,
 };
@@ -91,15 +90,15 @@ impl Kind {
 pub fn numbered(seed: u64, number: u64) -> Vec<u8> {
     let kind = Kind::ALL[(number % Kind::ALL.len() as u64) as usize];
     let seed = Random::new(seed ^ number.wrapping_mul(0x2545_f491_4f6c_dd1d)).draw();
-    list(seed, kind, Fault::None)
+    list(seed, kind)
 }
 
-/// A list of calls. The table that runs along has the given fault.
-pub fn list(seed: u64, kind: Kind, fault: Fault) -> Vec<u8> {
+/// A list of calls.
+pub fn list(seed: u64, kind: Kind) -> Vec<u8> {
     let mut random = Random::new(!seed);
     let profile = kind.profile(&mut random);
     let settings = settings(&mut random, kind);
-    let mut scene = Scene::new(seed, profile, fault);
+    let mut scene = Scene::new(seed, profile);
     match kind {
         Kind::Running => running(&mut scene, settings),
         Kind::Full => full(&mut scene, settings),

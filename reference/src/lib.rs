@@ -3,8 +3,12 @@
 //!
 //! - `cargo test --release` runs the tests, those of the session program too.
 //! - `cargo run --release --bin compare` compares both on generated lists.
+//! - `cargo run --release --bin generate SEED NUMBER` writes one of these lists.
 //! - `cargo run --release --bin benchmark` measures both, after
 //!   `cargo build --release`.
+//!
+//! `wrong/` has wrong versions of the rules, as edits of their sources. The
+//! tests see that the lists tell each from the right one.
 //!
 //! The session program is `../target/bin/session`, or the one that the variable
 //! SESSION names.
@@ -16,7 +20,6 @@ pub mod call;
 pub mod claim;
 pub mod compare;
 pub mod convoy;
-pub mod fault;
 pub mod generate;
 pub mod line;
 pub mod motion;

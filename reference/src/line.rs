@@ -2,9 +2,8 @@
 //! and the first that applies is the answer.
 
 use crate::brake::{Brake, STEPS_PER_FOOT};
-use crate::call::{Answer, Call, Entry, Settings};
-use crate::fault::Fault;
-use crate::motion::{greatest_cap, highest_cap, stop_travel, Bounds, Motion, Order};
+use crate::call::{Answer, Call, Entry, Refusal, Settings};
+use crate::motion::{greatest_cap, Bounds, Motion, Order};
 use crate::train::Train;
 
 pub const LONGEST_LINE: u64 = 2_000_000_000_000;
@@ -15,32 +14,20 @@ pub const MOST_TRAINS: usize = 32;
 pub const LAST_NUMBER: u64 = 4_294_967_295;
 pub const LAST_ID: u64 = 65_535;
 
-/// The record that a taken off train leaves, which no right version keeps.
-#[derive(Clone, Copy, Debug)]
-struct Former {
-    id: u64,
-    number: u64,
-    held: bool,
-}
-
 #[derive(Clone, Debug)]
 pub struct Line {
     settings: Settings,
     trains: Vec<Train>,
-    former: Vec<Former>,
-    fault: Fault,
 }
 
 impl Line {
-    pub fn open(settings: Settings, fault: Fault) -> Result<Line, Answer> {
+    pub fn open(settings: Settings) -> Result<Line, Answer> {
         if !in_range(&settings) {
-            return Err(Answer::refused(3));
+            return Err(Answer::refused(Refusal::Setting));
         }
         Ok(Line {
             settings,
             trains: Vec::with_capacity(MOST_TRAINS),
-            former: Vec::new(),
-            fault,
         })
     }
 
@@ -60,21 +47,14 @@ impl Line {
             return Some(self.settings.line_end);
         }
         let ahead = &self.trains[index - 1];
-        let safety = match self.fault {
-            Fault::NoSafetyDistance => 0,
-            _ => self.settings.safety,
-        };
-        let steps = match self.fault {
-            Fault::LimitAtHead => 0,
-            _ => ahead.steps(),
-        };
-        ahead.motion.head.checked_sub(steps + safety)
+        let behind_head = ahead.steps() + self.settings.safety;
+        ahead.motion.head.checked_sub(behind_head)
     }
 
     /// Any call but an opening, which makes a table of its own.
     pub fn call(&mut self, call: Call) -> Answer {
         match call {
-            Call::Open(_) => Answer::refused(2),
+            Call::Open(_) => Answer::refused(Refusal::OutOfTurn),
             Call::Enter(entry) => self.enter(entry),
             Call::Report { id, head, speed } => self.report(id, head, speed),
             Call::Extend { id, number, length } => self.extend(id, number, length),
@@ -87,46 +67,35 @@ impl Line {
 
     pub fn enter(&mut self, entry: Entry) -> Answer {
         if !(1..=LAST_ID).contains(&entry.id) || entry.start > LAST_NUMBER {
-            return Answer::refused(4);
+            return Answer::refused(Refusal::Entry);
         }
-        let Some(brake) = Brake::of_consist(entry.feet, entry.class, self.fault) else {
-            return Answer::refused(4);
+        let Some(brake) = Brake::of_consist(entry.feet, entry.class) else {
+            return Answer::refused(Refusal::Entry);
         };
-        let full = self.trains.len() >= MOST_TRAINS;
-        if full && self.fault == Fault::FullBeforeKnown {
-            return Answer::refused(6);
-        }
         if self.find(entry.id).is_some() {
-            return Answer::refused(5);
+            return Answer::refused(Refusal::KnownId);
         }
-        if full {
-            return Answer::refused(6);
+        if self.trains.len() >= MOST_TRAINS {
+            return Answer::refused(Refusal::LineFull);
         }
         if entry.head < entry.feet * STEPS_PER_FOOT
             || !self.is_within(self.trains.len(), entry.head)
         {
-            return Answer::refused(7);
+            return Answer::refused(Refusal::EnteringHead);
         }
-        let mut train = Train::entered(entry, brake);
-        if let Some(former) = self.former.iter().rfind(|former| former.id == entry.id) {
-            train.number = train.number.max(former.number);
-            train.held = former.held;
-        }
+        let train = Train::entered(entry, brake);
         self.trains.push(train);
         Answer::accepted([brake.full, brake.growth, train.end])
     }
 
     pub fn report(&mut self, id: u64, head: u64, speed: u64) -> Answer {
         let Some(index) = self.find(id) else {
-            return Answer::refused(8);
+            return Answer::refused(Refusal::NoSuchTrain);
         };
         let train = self.trains[index];
-        let worst = train.worst(self.fault);
-        if !train.allows(head, speed, worst, self.fault) {
-            if self.fault == Fault::RefusedReportAges {
-                self.trains[index].motion.level = worst.level;
-            }
-            return Answer::refused(9);
+        let worst = train.worst();
+        if !train.allows(head, speed, worst) {
+            return Answer::refused(Refusal::ReportNotAllowed);
         }
         let motion = Motion {
             head,
@@ -137,48 +106,30 @@ impl Line {
         let train = &mut self.trains[index];
         train.motion = motion;
         train.order = order;
-        if self.fault == Fault::HoldOnce {
-            train.held = false;
-        }
-        match order {
-            Order::Drive(cap) => Answer::accepted([1, cap, reach]),
-            Order::Brake => Answer::accepted([2, 0, reach]),
-        }
+        let [number, cap] = order.numbers();
+        Answer::accepted([number, cap, reach])
     }
 
     pub fn extend(&mut self, id: u64, number: u64, length: u64) -> Answer {
-        let in_range = self.is_request_in_range(number, length);
-        if !in_range && self.fault == Fault::RangeBeforeTrain {
-            return Answer::refused(10);
-        }
         let Some(index) = self.find(id) else {
-            return Answer::refused(8);
+            return Answer::refused(Refusal::NoSuchTrain);
         };
-        if !in_range {
-            return Answer::refused(10);
+        if !self.is_request_in_range(number, length) {
+            return Answer::refused(Refusal::Request);
         }
         let train = self.trains[index];
-        if self.is_old_number(&train, number) {
-            return Answer::refused(11);
-        }
-        let end = train.end + length;
-        let beyond = !self.is_within(index, end);
-        if beyond && self.fault == Fault::LimitBeforeRepeat {
-            return Answer::refused(13);
+        if train.has_passed(number) {
+            return Answer::refused(Refusal::OldNumber);
         }
         if let Some(last) = train.length.filter(|_| number == train.number) {
             if length != last {
-                return Answer::refused(12);
+                return Answer::refused(Refusal::OtherLength);
             }
-            if self.fault != Fault::RepeatAdds {
-                return Answer::accepted([train.end, 1, 0]);
-            }
+            return Answer::accepted([train.end, 1, 0]);
         }
-        if beyond {
-            if self.fault == Fault::RefusedNumberUsed {
-                self.trains[index].number = number;
-            }
-            return Answer::refused(13);
+        let end = train.end + length;
+        if !self.is_within(index, end) {
+            return Answer::refused(Refusal::BeyondLimit);
         }
         let train = &mut self.trains[index];
         train.end = end;
@@ -189,66 +140,40 @@ impl Line {
 
     pub fn call_back(&mut self, id: u64, place: u64) -> Answer {
         let Some(index) = self.find(id) else {
-            return Answer::refused(8);
+            return Answer::refused(Refusal::NoSuchTrain);
         };
         let train = &mut self.trains[index];
-        let lowest = match self.fault {
-            Fault::CallBackFromHead => train.motion.head,
-            _ => train.reach(self.fault),
-        };
-        if place < lowest || place > train.end {
-            if self.fault == Fault::RefusedCallBackMoves {
-                train.end = lowest;
-            }
-            return Answer::refused(14);
-        }
-        if place == train.end && self.fault == Fault::CallBackBelowEnd {
-            return Answer::refused(14);
+        if place < train.reach() || place > train.end {
+            return Answer::refused(Refusal::Place);
         }
         train.end = place;
-        if self.fault == Fault::CallBackForgetsLength {
-            train.length = train.length.map(|_| 0);
-        }
         Answer::DONE
     }
 
     pub fn hold(&mut self, id: u64) -> Answer {
         let Some(index) = self.find(id) else {
-            return Answer::refused(8);
+            return Answer::refused(Refusal::NoSuchTrain);
         };
-        let train = &mut self.trains[index];
-        train.held = true;
-        if self.fault == Fault::HoldAtOnce {
-            train.order = Order::Brake;
-        }
+        self.trains[index].held = true;
         Answer::DONE
     }
 
     pub fn lift(&mut self, id: u64) -> Answer {
         let Some(index) = self.find(id) else {
-            return Answer::refused(8);
+            return Answer::refused(Refusal::NoSuchTrain);
         };
-        let train = &mut self.trains[index];
-        train.held = false;
-        if self.fault == Fault::LiftResetsLevel {
-            train.motion.level = 0;
-        }
+        self.trains[index].held = false;
         Answer::DONE
     }
 
     pub fn take_off(&mut self, id: u64) -> Answer {
         let Some(index) = self.find(id) else {
-            return Answer::refused(8);
+            return Answer::refused(Refusal::NoSuchTrain);
         };
-        if index != 0 && self.fault != Fault::TakeOffAny {
-            return Answer::refused(15);
-        }
-        let train = self.trains[index];
-        if !train.may_be_taken_off(self.fault) {
-            return Answer::refused(15);
+        if index != 0 || !self.trains[index].may_be_taken_off() {
+            return Answer::refused(Refusal::NotLeaving);
         }
         self.trains.remove(index);
-        self.remember(&train);
         Answer::DONE
     }
 
@@ -261,65 +186,25 @@ impl Line {
     }
 
     fn is_request_in_range(&self, number: u64, length: u64) -> bool {
-        let longest = match self.fault {
-            Fault::LengthUnbounded => u64::MAX,
-            _ => self.settings.line_end,
-        };
+        let longest = self.settings.line_end;
         (1..=LAST_NUMBER).contains(&number) && (1..=longest).contains(&length)
-    }
-
-    /// At or below the starting number, or below the last accepted.
-    fn is_old_number(&self, train: &Train, number: u64) -> bool {
-        if self.fault == Fault::OlderNumberNew && number < train.number {
-            return false;
-        }
-        if train.length.is_some() || self.fault == Fault::StartingNumberNew {
-            return number < train.number;
-        }
-        number <= train.number
     }
 
     /// The order for the coming cycle and its reach.
     fn next_order(&self, train: &Train, motion: Motion) -> (Order, u64) {
-        let (brake, fault) = (train.brake, self.fault);
+        let brake = train.brake;
         let bounds = Bounds {
             ceiling: self.settings.ceiling,
             traction: self.settings.traction,
-            end: match fault {
-                Fault::ReachBelowEnd => train.end - 1,
-                _ => train.end,
-            },
+            end: train.end,
         };
-        let braked = || (Order::Brake, motion.reach(Order::Brake, brake, fault));
+        let braked = || (Order::Brake, motion.reach(Order::Brake, brake));
         if train.held {
             return braked();
         }
-        if fault == Fault::DistanceReleasesBrake && has_no_distance(motion, brake, train.end) {
-            let cap = highest_cap(motion.speed, bounds, fault).unwrap_or(0);
-            let order = Order::Drive(cap);
-            return (order, motion.reach(order, brake, fault));
-        }
-        match greatest_cap(motion, brake, bounds, fault) {
-            Some((cap, _)) if cap > 0 && fault == Fault::CapOneBelow => {
-                let order = Order::Drive(cap - 1);
-                (order, motion.reach(order, brake, fault))
-            }
+        match greatest_cap(motion, brake, bounds) {
             Some((cap, reach)) => (Order::Drive(cap), reach),
             None => braked(),
-        }
-    }
-
-    fn remember(&mut self, train: &Train) {
-        let former = Former {
-            id: train.id,
-            number: match self.fault {
-                Fault::FormerNumberKept => train.number,
-                _ => 0,
-            },
-            held: train.held && self.fault == Fault::FormerHoldKept,
-        };
-        if former.number > 0 || former.held {
-            self.former.push(former);
         }
     }
 }
@@ -329,9 +214,4 @@ fn in_range(settings: &Settings) -> bool {
         && settings.safety <= GREATEST_SAFETY
         && (1..=GREATEST_CEILING).contains(&settings.ceiling)
         && (1..=GREATEST_TRACTION).contains(&settings.traction)
-}
-
-/// Document 004's distance to go: the free track beyond the stopping place.
-fn has_no_distance(motion: Motion, brake: Brake, end: u64) -> bool {
-    motion.head + stop_travel(motion.speed, 0, brake, Fault::None) >= end
 }

@@ -7,8 +7,8 @@ use crate::line::{
     GREATEST_CEILING, GREATEST_SAFETY, GREATEST_TRACTION, LAST_ID, LAST_NUMBER, LONGEST_LINE,
 };
 use crate::random::Random;
-use crate::scene::{Scene, WIDEST};
-use crate::wire::put_call;
+use crate::scene::Scene;
+use crate::wire::{put_call, WIDEST};
 
 /// Both ends of the range of each setting.
 const ENDS: [[u64; 2]; 4] = [

@@ -2,7 +2,6 @@
 //! with them, so that the next call can fit, or just not fit, what is there.
 
 use crate::call::{Call, Entry, Settings};
-use crate::fault::Fault;
 use crate::line::Line;
 use crate::motion::Motion;
 use crate::random::Random;
@@ -10,9 +9,6 @@ use crate::session::Session;
 use crate::spoil::spoil;
 use crate::train::Train;
 use crate::wire::{put_call, ANSWER_BYTES};
-
-/// The greatest number that fits into a field of an input line.
-pub const WIDEST: u64 = 99_999_999_999_999;
 
 /// What kind of trains a scene lets in, and how often a line is spoilt.
 #[derive(Clone, Copy, Debug)]
@@ -26,7 +22,6 @@ pub struct Profile {
 pub struct Scene {
     pub random: Random,
     profile: Profile,
-    fault: Fault,
     session: Session,
     input: Vec<u8>,
     answers: Vec<u8>,
@@ -34,12 +29,11 @@ pub struct Scene {
 }
 
 impl Scene {
-    pub fn new(seed: u64, profile: Profile, fault: Fault) -> Scene {
+    pub fn new(seed: u64, profile: Profile) -> Scene {
         Scene {
             random: Random::new(seed),
             profile,
-            fault,
-            session: Session::new(fault),
+            session: Session::default(),
             input: Vec::new(),
             answers: Vec::new(),
             lines: 0,
@@ -76,11 +70,11 @@ impl Scene {
 
     /// The worst case of a train's last order.
     pub fn worst(&self, train: &Train) -> Motion {
-        train.worst(self.fault)
+        train.worst()
     }
 
     pub fn reach(&self, train: &Train) -> u64 {
-        train.reach(self.fault)
+        train.reach()
     }
 
     /// The farthest end for the train with this index; 0 where there is none.

@@ -1,13 +1,12 @@
 //! The session program as a value: bytes in, answer lines out.
 
-use crate::call::{Answer, Call, Settings};
-use crate::fault::Fault;
+use crate::call::{Answer, Call, Refusal, Settings};
 use crate::line::Line;
 use crate::wire::{put_answer, read_call, CALL_BYTES};
 use std::io::BufRead;
 
+#[derive(Default)]
 pub struct Session {
-    fault: Fault,
     line: Option<Line>,
     /// The start of a line whose line feed has not come yet, at most one byte
     /// more than a readable line has: what is longer is unreadable anyway.
@@ -15,8 +14,8 @@ pub struct Session {
 }
 
 /// The whole output for a whole input.
-pub fn run(input: &[u8], fault: Fault) -> Vec<u8> {
-    let mut session = Session::new(fault);
+pub fn run(input: &[u8]) -> Vec<u8> {
+    let mut session = Session::default();
     let mut out = Vec::new();
     session.feed(input, &mut out);
     session.finish(&mut out);
@@ -24,14 +23,6 @@ pub fn run(input: &[u8], fault: Fault) -> Vec<u8> {
 }
 
 impl Session {
-    pub fn new(fault: Fault) -> Session {
-        Session {
-            fault,
-            line: None,
-            part: Vec::with_capacity(CALL_BYTES + 1),
-        }
-    }
-
     /// The table, once an opening has been accepted.
     pub fn line(&self) -> Option<&Line> {
         self.line.as_ref()
@@ -49,14 +40,9 @@ impl Session {
 
     /// Answers a last line without its line feed.
     pub fn finish(&mut self, out: &mut Vec<u8>) {
-        if self.part.is_empty() || self.fault == Fault::TailUnanswered {
-            return;
+        if !self.part.is_empty() {
+            put_answer(Answer::refused(Refusal::Unreadable), out);
         }
-        let answer = match self.fault {
-            Fault::TailTaken => self.end_line(b""),
-            _ => Answer::refused(1),
-        };
-        put_answer(answer, out);
     }
 
     fn end_line(&mut self, text: &[u8]) -> Answer {
@@ -77,44 +63,23 @@ impl Session {
     }
 
     fn answer(&mut self, text: &[u8]) -> Answer {
-        let Some(call) = read_call(self.readable(text), self.fault) else {
-            let unopened = self.line.is_none() && self.fault == Fault::OpeningBeforeReading;
-            return Answer::refused(if unopened { 2 } else { 1 });
+        let Some(call) = read_call(text) else {
+            return Answer::refused(Refusal::Unreadable);
         };
         match (&mut self.line, call) {
             (None, Call::Open(settings)) => self.open(settings),
-            (None, _) => Answer::refused(2),
-            (Some(_), Call::Open(settings)) => self.open_again(settings),
+            (None, _) => Answer::refused(Refusal::OutOfTurn),
             (Some(line), call) => line.call(call),
         }
     }
 
-    fn readable<'a>(&self, text: &'a [u8]) -> &'a [u8] {
-        match self.fault {
-            Fault::LongLineCut => &text[..text.len().min(CALL_BYTES)],
-            Fault::ReturnIgnored => text.strip_suffix(b"\r").unwrap_or(text),
-            _ => text,
-        }
-    }
-
     fn open(&mut self, settings: Settings) -> Answer {
-        match Line::open(settings, self.fault) {
+        match Line::open(settings) {
             Ok(line) => {
                 self.line = Some(line);
                 Answer::DONE
             }
             Err(refusal) => refusal,
-        }
-    }
-
-    fn open_again(&mut self, settings: Settings) -> Answer {
-        match self.fault {
-            Fault::SecondOpening => self.open(settings),
-            Fault::RangeBeforeSecondOpening => match Line::open(settings, self.fault) {
-                Ok(_) => Answer::refused(2),
-                Err(refusal) => refusal,
-            },
-            _ => Answer::refused(2),
         }
     }
 }

@@ -1,17 +1,15 @@
 //! Spoilt input lines: what a bad typist or a broken cable sends.
 
 use crate::random::Random;
+use crate::wire::{CALL_FIELDS, CODE_BYTES, FIELD_BYTES};
+use std::ops::Range;
 
-const ODD_CODES: [[u8; 2]; 8] = [
-    *b" 0", *b" 9", *b"01", *b"10", *b"1 ", *b"  ", *b"-1", *b"99",
-];
-const FIELDS: [usize; 5] = [2, 16, 30, 44, 58];
-const FIELD_BYTES: usize = 14;
+/// Set at the right of the code's columns.
+const ODD_CODES: [&[u8]; 8] = [b"0", b"9", b"01", b"10", b"1 ", b"", b"-1", b"99"];
 
 /// Spoils a line in one of many ways. Few of them leave it readable.
 pub fn spoil(line: &mut Vec<u8>, random: &mut Random) {
-    let field = random.pick(&FIELDS);
-    let column = field..field + FIELD_BYTES;
+    let column = any_column(0, random);
     let place = random.below(line.len() as u64) as usize;
     match random.below(20) {
         0 => line.truncate(place),
@@ -32,13 +30,26 @@ pub fn spoil(line: &mut Vec<u8>, random: &mut Random) {
         9 | 10 => before_number(&mut line[column], b'0'),
         11 => line[column].fill(b' '),
         12 => line[column].fill(b'0'),
-        13 => line[..2].copy_from_slice(&random.pick(&ODD_CODES)),
+        13 => set_code(&mut line[..CODE_BYTES], random.pick(&ODD_CODES)),
         14 => move_left(&mut line[column]),
         15 | 16 => raise_last_number(line, random),
         17 => lengthen(line, random),
         18 => follow_with_more(line, random),
         _ => noise(line, random),
     }
+}
+
+/// The columns of a number, of those from the one with index `first` on.
+fn any_column(first: usize, random: &mut Random) -> Range<usize> {
+    let field = first + random.below((CALL_FIELDS - first) as u64) as usize;
+    let start = CODE_BYTES + field * FIELD_BYTES;
+    start..start + FIELD_BYTES
+}
+
+fn set_code(column: &mut [u8], code: &[u8]) {
+    let (left, right) = column.split_at_mut(column.len() - code.len());
+    left.fill(b' ');
+    right.copy_from_slice(code);
 }
 
 /// Sets a byte in the last space before a number, or in its first digit.
@@ -55,8 +66,8 @@ fn move_left(column: &mut [u8]) {
 
 /// The last number of a line is unused in most calls.
 fn raise_last_number(line: &mut [u8], random: &mut Random) {
-    let field = random.pick(&FIELDS[1..]);
-    line[field + FIELD_BYTES - 1] = b'0' + random.between(1, 9) as u8;
+    let column = any_column(1, random);
+    line[column.end - 1] = b'0' + random.between(1, 9) as u8;
 }
 
 /// A line of thousands of bytes.

@@ -2,7 +2,6 @@
 
 use crate::brake::{Brake, STEPS_PER_FOOT};
 use crate::call::Entry;
-use crate::fault::Fault;
 use crate::motion::{Motion, Order};
 
 /// One train record.
@@ -47,28 +46,29 @@ impl Train {
     }
 
     /// The worst case of the last order.
-    pub fn worst(&self, fault: Fault) -> Motion {
-        self.motion.worst(self.order, self.brake, fault)
+    pub fn worst(&self) -> Motion {
+        self.motion.worst(self.order, self.brake)
     }
 
-    pub fn reach(&self, fault: Fault) -> u64 {
-        self.motion.reach(self.order, self.brake, fault)
+    pub fn reach(&self) -> u64 {
+        self.motion.reach(self.order, self.brake)
     }
 
     /// Whether a report is within the worst case of the last order.
-    pub fn allows(&self, head: u64, speed: u64, worst: Motion, fault: Fault) -> bool {
-        let behind = u64::from(fault == Fault::HeadOneBehind);
-        let beyond = u64::from(fault == Fault::HeadOneBeyond);
-        let above = u64::from(fault == Fault::SpeedOneAbove);
-        head + behind >= self.motion.head
-            && head <= worst.head + beyond
-            && speed <= worst.speed + above
+    pub fn allows(&self, head: u64, speed: u64, worst: Motion) -> bool {
+        head >= self.motion.head && head <= worst.head && speed <= worst.speed
+    }
+
+    /// At or below the starting number, or below the last accepted.
+    pub fn has_passed(&self, number: u64) -> bool {
+        if self.length.is_some() {
+            return number < self.number;
+        }
+        number <= self.number
     }
 
     /// Standing under brake.
-    pub fn may_be_taken_off(&self, fault: Fault) -> bool {
-        let stands = self.motion.speed == 0 || fault == Fault::TakeOffMoving;
-        let braked = self.order == Order::Brake || fault == Fault::TakeOffUnderDrive;
-        stands && braked
+    pub fn may_be_taken_off(&self) -> bool {
+        self.motion.speed == 0 && self.order == Order::Brake
     }
 }

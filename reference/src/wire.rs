@@ -1,28 +1,34 @@
 //! Input lines and answer lines: numbers in columns, right-justified with
 //! spaces, without leading zeros.
 
-use crate::call::{Answer, Call, Entry, Settings};
-use crate::fault::Fault;
+use crate::call::{Answer, Call, Code, Entry, Settings};
 
+/// Columns of a call's code or an answer's number.
+pub const CODE_BYTES: usize = 2;
+/// Columns of each number after it.
+pub const FIELD_BYTES: usize = 14;
+/// Numbers of a call.
+pub const CALL_FIELDS: usize = 5;
 /// Bytes of an input line without its line feed.
-pub const CALL_BYTES: usize = 72;
+pub const CALL_BYTES: usize = CODE_BYTES + CALL_FIELDS * FIELD_BYTES;
 /// Bytes of an answer line without its line feed.
-pub const ANSWER_BYTES: usize = 44;
+pub const ANSWER_BYTES: usize = CODE_BYTES + ANSWER_FIELDS * FIELD_BYTES;
+/// The greatest number that fits into its columns.
+pub const WIDEST: u64 = 10_u64.pow(FIELD_BYTES as u32) - 1;
 
-const CODE_BYTES: usize = 2;
-const FIELD_BYTES: usize = 14;
+const ANSWER_FIELDS: usize = 3;
 
 /// None where the line is unreadable.
-pub fn read_call(line: &[u8], fault: Fault) -> Option<Call> {
-    let (code, fields) = read_columns::<5>(line, fault)?;
+pub fn read_call(line: &[u8]) -> Option<Call> {
+    let (code, fields) = read_columns::<CALL_FIELDS>(line)?;
     let (call, used) = call_of(code, fields)?;
     let unused_are_zero = fields[used..].iter().all(|&field| field == 0);
-    (unused_are_zero || fault == Fault::UnusedIgnored).then_some(call)
+    unused_are_zero.then_some(call)
 }
 
 /// None where the line is not an answer of the session program.
 pub fn read_answer(line: &[u8]) -> Option<Answer> {
-    let (number, values) = read_columns::<3>(line, Fault::None)?;
+    let (number, values) = read_columns::<ANSWER_FIELDS>(line)?;
     Some(Answer { number, values })
 }
 
@@ -35,9 +41,8 @@ pub fn put_answer(answer: Answer, out: &mut Vec<u8>) {
 
 /// Adds an input line with its line feed.
 pub fn put_call(call: Call, out: &mut Vec<u8>) {
-    let (code, fields) = columns_of(call);
     let mut line = [b' '; CALL_BYTES + 1];
-    put_columns(code, fields, &mut line);
+    put_columns(call.code().number(), fields_of(call), &mut line);
     out.extend_from_slice(&line);
 }
 
@@ -51,25 +56,23 @@ pub fn whole_line(line: &[u8]) -> Option<&[u8]> {
     line.strip_suffix(b"\n")
 }
 
-fn read_columns<const N: usize>(line: &[u8], fault: Fault) -> Option<(u64, [u64; N])> {
+fn read_columns<const N: usize>(line: &[u8]) -> Option<(u64, [u64; N])> {
     if line.len() != CODE_BYTES + N * FIELD_BYTES {
         return None;
     }
     let (code, columns) = line.split_at(CODE_BYTES);
-    let code = read_number(code, fault)?;
+    let code = read_number(code)?;
     let mut fields = [0; N];
     for (field, column) in fields.iter_mut().zip(columns.chunks_exact(FIELD_BYTES)) {
-        *field = read_number(column, fault)?;
+        *field = read_number(column)?;
     }
     Some((code, fields))
 }
 
-fn read_number(column: &[u8], fault: Fault) -> Option<u64> {
-    let Some(first) = column.iter().position(|&byte| byte != b' ') else {
-        return (fault == Fault::BlankIsZero).then_some(0);
-    };
+fn read_number(column: &[u8]) -> Option<u64> {
+    let first = column.iter().position(|&byte| byte != b' ')?;
     let digits = &column[first..];
-    if digits[0] == b'0' && digits.len() > 1 && fault != Fault::LeadingZeros {
+    if digits[0] == b'0' && digits.len() > 1 {
         return None;
     }
     let mut value = 0;
@@ -83,11 +86,12 @@ fn read_number(column: &[u8], fault: Fault) -> Option<u64> {
 }
 
 /// The call of a code and how many of its numbers are used.
-fn call_of(code: u64, fields: [u64; 5]) -> Option<(Call, usize)> {
+fn call_of(code: u64, fields: [u64; CALL_FIELDS]) -> Option<(Call, usize)> {
     let [first, second, third, fourth, fifth] = fields;
     let id = first;
+    let code = Code::ALL.iter().find(|known| known.number() == code)?;
     let found = match code {
-        1 => {
+        Code::Open => {
             let settings = Settings {
                 line_end: first,
                 safety: second,
@@ -96,7 +100,7 @@ fn call_of(code: u64, fields: [u64; 5]) -> Option<(Call, usize)> {
             };
             (Call::Open(settings), 4)
         }
-        2 => {
+        Code::Enter => {
             let entry = Entry {
                 id,
                 head: second,
@@ -106,33 +110,30 @@ fn call_of(code: u64, fields: [u64; 5]) -> Option<(Call, usize)> {
             };
             (Call::Enter(entry), 5)
         }
-        3 => {
+        Code::Report => {
             let (head, speed) = (second, third);
             (Call::Report { id, head, speed }, 3)
         }
-        4 => {
+        Code::Extend => {
             let (number, length) = (second, third);
             (Call::Extend { id, number, length }, 3)
         }
-        5 => (Call::CallBack { id, place: second }, 2),
-        6 => (Call::Hold { id }, 1),
-        7 => (Call::Lift { id }, 1),
-        8 => (Call::TakeOff { id }, 1),
-        _ => return None,
+        Code::CallBack => (Call::CallBack { id, place: second }, 2),
+        Code::Hold => (Call::Hold { id }, 1),
+        Code::Lift => (Call::Lift { id }, 1),
+        Code::TakeOff => (Call::TakeOff { id }, 1),
     };
     Some(found)
 }
 
-fn columns_of(call: Call) -> (u64, [u64; 5]) {
+fn fields_of(call: Call) -> [u64; CALL_FIELDS] {
     match call {
-        Call::Open(s) => (1, [s.line_end, s.safety, s.ceiling, s.traction, 0]),
-        Call::Enter(e) => (2, [e.id, e.head, e.feet, e.class, e.start]),
-        Call::Report { id, head, speed } => (3, [id, head, speed, 0, 0]),
-        Call::Extend { id, number, length } => (4, [id, number, length, 0, 0]),
-        Call::CallBack { id, place } => (5, [id, place, 0, 0, 0]),
-        Call::Hold { id } => (6, [id, 0, 0, 0, 0]),
-        Call::Lift { id } => (7, [id, 0, 0, 0, 0]),
-        Call::TakeOff { id } => (8, [id, 0, 0, 0, 0]),
+        Call::Open(s) => [s.line_end, s.safety, s.ceiling, s.traction, 0],
+        Call::Enter(e) => [e.id, e.head, e.feet, e.class, e.start],
+        Call::Report { id, head, speed } => [id, head, speed, 0, 0],
+        Call::Extend { id, number, length } => [id, number, length, 0, 0],
+        Call::CallBack { id, place } => [id, place, 0, 0, 0],
+        Call::Hold { id } | Call::Lift { id } | Call::TakeOff { id } => [id, 0, 0, 0, 0],
     }
 }
 

@@ -1,7 +1,6 @@
 //! The greatest cap by halving is the greatest cap by trying each.
 
 use reference::brake::{Brake, LONGEST_FEET};
-use reference::fault::Fault;
 use reference::motion::{greatest_cap, greatest_cap_by_scan, Bounds, Motion, Order};
 use reference::random::Random;
 
@@ -9,7 +8,7 @@ use reference::random::Random;
 fn record(random: &mut Random, fastest: u64, strongest: u64) -> (Motion, Brake, Bounds) {
     let feet = random.scaled(LONGEST_FEET);
     let class = random.between(1, 3);
-    let brake = Brake::of_consist(feet, class, Fault::None).expect("the consist is in range");
+    let brake = Brake::of_consist(feet, class).expect("the consist is in range");
     let ceiling = random.scaled(fastest);
     let traction = random.scaled(strongest);
     let motion = Motion {
@@ -18,8 +17,8 @@ fn record(random: &mut Random, fastest: u64, strongest: u64) -> (Motion, Brake, 
         level: random.between(0, brake.full),
     };
     let some_cap = random.between(0, traction);
-    let reach = motion.reach(Order::Drive(some_cap), brake, Fault::None);
-    let least = motion.reach(Order::Drive(0), brake, Fault::None);
+    let reach = motion.reach(Order::Drive(some_cap), brake);
+    let least = motion.reach(Order::Drive(0), brake);
     let end = match random.below(4) {
         0 => reach,
         1 => reach - 1,
@@ -40,7 +39,7 @@ fn compare(seed: u64, count: usize, fastest: u64, strongest: u64) -> (usize, usi
     let (mut drives, mut brakes) = (0, 0);
     for _ in 0..count {
         let (motion, brake, bounds) = record(&mut random, fastest, strongest);
-        let found = greatest_cap(motion, brake, bounds, Fault::None);
+        let found = greatest_cap(motion, brake, bounds);
         let scanned = greatest_cap_by_scan(motion, brake, bounds);
         assert_eq!(
             found.map(|(cap, _)| cap),
@@ -49,7 +48,7 @@ fn compare(seed: u64, count: usize, fastest: u64, strongest: u64) -> (usize, usi
         );
         match found {
             Some((cap, reach)) => {
-                assert_eq!(reach, motion.reach(Order::Drive(cap), brake, Fault::None));
+                assert_eq!(reach, motion.reach(Order::Drive(cap), brake));
                 drives += 1;
             }
             None => brakes += 1,

@@ -1,15 +1,23 @@
-//! The claim checker refuses made-up histories that break demand 3, and takes
-//! those that keep it.
+//! The claim checker refuses made-up histories that break demand 3, or in which
+//! a report is answered as document 01 does not say, and takes those that keep
+//! both.
 
 use reference::brake::{Brake, STEPS_PER_FOOT};
-use reference::call::{Answer, Call, Entry, Settings};
+use reference::call::{Answer, Call, Entry, Refusal, Settings};
 use reference::claim::{check, Broken, Reached};
-use reference::fault::Fault;
+use reference::motion::{Motion, Order};
 use reference::wire::{put_answer, put_call};
 
 const LINE_END: u64 = 1_000_000_000;
 const SAFETY: u64 = 1000;
 const CEILING: u64 = 5000;
+const TRACTION: u64 = 100;
+/// Where the trains of most histories enter.
+const HEAD: u64 = 10_000_000;
+/// With cap 7 a standing train comes to a speed of 7. Then it travels 14 steps
+/// at level 0, and 49 divided by the level, rounded up, at the next one.
+const CAP: u64 = 7;
+const REACH: u64 = HEAD + 7 + 14 + 1;
 
 /// Calls with the answers that a program might have given.
 #[derive(Default)]
@@ -25,7 +33,7 @@ impl Made {
             line_end: LINE_END,
             safety: SAFETY,
             ceiling: CEILING,
-            traction: 100,
+            traction: TRACTION,
         }));
         made
     }
@@ -43,22 +51,56 @@ impl Made {
         put_answer(answer, &mut self.output);
     }
 
+    /// A line with one train that has so many steps to go.
+    fn one_train(free: u64) -> Made {
+        let mut made = Made::line();
+        made.enter(1, HEAD);
+        made.extend(1, 1, free, HEAD + free);
+        made
+    }
+
+    /// A line with one train that was just told to drive with `CAP`.
+    fn driving() -> Made {
+        let mut made = Made::one_train(1000);
+        made.report(HEAD, 0, Order::Drive(CAP), REACH);
+        made
+    }
+
     fn accepted(&mut self, call: Call) {
         self.answered(call, Answer::DONE);
     }
 
     fn enter(&mut self, id: u64, head: u64) {
-        self.accepted(Call::Enter(Entry {
+        let Brake { full, growth } = brake();
+        self.enter_with(id, head, [full, growth, head]);
+    }
+
+    fn enter_with(&mut self, id: u64, head: u64, figures: [u64; 3]) {
+        let entry = Entry {
             id,
             head,
             feet: 1,
             class: 1,
             start: 0,
-        }));
+        };
+        self.answered(Call::Enter(entry), Answer::accepted(figures));
     }
 
-    fn report(&mut self, id: u64, head: u64, speed: u64) {
-        self.accepted(Call::Report { id, head, speed });
+    /// A report of train 1.
+    fn report(&mut self, head: u64, speed: u64, order: Order, reach: u64) {
+        let [number, cap] = order.numbers();
+        self.report_with(1, head, speed, [number, cap, reach]);
+    }
+
+    fn report_with(&mut self, id: u64, head: u64, speed: u64, values: [u64; 3]) {
+        let call = Call::Report { id, head, speed };
+        self.answered(call, Answer::accepted(values));
+    }
+
+    /// A report of a standing train, answered with brake.
+    fn stand(&mut self, id: u64, head: u64) {
+        let [number, cap] = Order::Brake.numbers();
+        self.report_with(id, head, 0, [number, cap, head]);
     }
 
     fn extend(&mut self, id: u64, number: u64, length: u64, end: u64) {
@@ -82,19 +124,23 @@ impl Made {
     }
 }
 
+fn brake() -> Brake {
+    Brake::of_consist(1, 1).expect("the consist is in range")
+}
+
 fn held_count() -> u64 {
-    let brake = Brake::of_consist(1, 1, Fault::None).expect("the consist is in range");
-    brake.held_count(CEILING)
+    brake().held_count(CEILING)
 }
 
 #[test]
 fn head_past_its_end_is_refused() {
-    let mut made = Made::line();
-    made.enter(1, 10_000_000);
-    made.extend(1, 1, 500, 10_000_500);
-    made.report(1, 10_000_500, 7);
+    let mut made = Made::one_train(REACH - HEAD);
+    made.report(HEAD, 0, Order::Drive(CAP), REACH);
+    made.report(HEAD + 7, 7, Order::Brake, REACH);
+    made.report(HEAD + 7 + 14, 7, Order::Brake, REACH);
+    made.report(REACH, 0, Order::Brake, REACH);
     made.assert_kept();
-    made.report(1, 10_000_501, 7);
+    made.stand(1, REACH + 1);
     made.assert_broken("past its end");
 }
 
@@ -159,7 +205,7 @@ fn overlap_with_the_train_before_the_train_ahead_is_refused() {
     let mut made = Made::two_trains(100_000_000, 50_000_000);
     made.enter(3, 20_000_000);
     made.assert_kept();
-    made.report(3, 100_000_000, 0);
+    made.stand(3, 100_000_000);
     made.assert_broken("overlaps");
 }
 
@@ -168,67 +214,208 @@ fn rear_before_the_start_of_the_line_is_refused() {
     let mut made = Made::line();
     made.enter(1, STEPS_PER_FOOT);
     made.assert_kept();
-    made.report(1, STEPS_PER_FOOT - 1, 0);
+    made.stand(1, STEPS_PER_FOOT - 1);
     made.assert_broken("before the line");
+}
+
+/// A train that is held and has stood for so many reports.
+fn held_for(reports: u64) -> Made {
+    let mut made = Made::one_train(1000);
+    for _ in 0..reports {
+        // A second hold does not start the count again.
+        made.accepted(Call::Hold { id: 1 });
+        made.stand(1, HEAD);
+    }
+    made
 }
 
 #[test]
 fn held_train_that_moves_after_its_count_is_refused() {
-    let mut made = Made::line();
-    made.enter(1, 10_000_000);
-    made.accepted(Call::Hold { id: 1 });
-    for _ in 1..held_count() {
-        made.report(1, 10_000_000, 1);
-    }
+    let mut made = held_for(held_count() - 1);
     made.assert_kept();
-    made.report(1, 10_000_000, 1);
+    made.report(HEAD, 1, Order::Brake, HEAD);
     made.assert_broken("under hold");
 }
 
 #[test]
+fn held_train_that_moves_before_its_count_is_refused_by_its_order() {
+    let mut made = held_for(held_count() - 2);
+    made.report(HEAD, 1, Order::Brake, HEAD);
+    made.assert_broken("faster");
+}
+
+#[test]
 fn held_train_that_moves_again_is_refused() {
-    let mut made = Made::line();
-    made.enter(1, 10_000_000);
-    made.accepted(Call::Hold { id: 1 });
-    for _ in 0..held_count() {
-        // A second hold does not start the count again.
-        made.accepted(Call::Hold { id: 1 });
-        made.report(1, 10_000_000, 0);
-    }
+    let mut made = held_for(held_count());
     let reached = Reached {
         holds: 1,
         moving: 0,
     };
     assert_eq!(made.check(), Ok(reached));
-    made.report(1, 10_000_000, 1);
+    made.report(HEAD, 1, Order::Brake, HEAD);
     made.assert_broken("under hold");
 }
 
 #[test]
-fn lift_and_a_new_stay_end_the_count() {
-    let mut made = Made::line();
-    made.enter(1, 10_000_000);
-    for end_of_hold in [
-        vec![Call::Lift { id: 1 }],
-        vec![
-            Call::TakeOff { id: 1 },
-            Call::Enter(Entry {
-                id: 1,
-                head: 10_000_000,
-                feet: 1,
-                class: 1,
-                start: 0,
-            }),
-        ],
+fn lift_ends_the_count() {
+    let mut made = held_for(held_count() - 1);
+    made.accepted(Call::Lift { id: 1 });
+    made.report(HEAD, 0, Order::Drive(CAP), REACH);
+    made.report(HEAD + 7, 7, Order::Brake, REACH);
+    made.assert_kept();
+}
+
+#[test]
+fn new_stay_ends_the_count() {
+    let mut made = held_for(held_count() - 1);
+    made.accepted(Call::TakeOff { id: 1 });
+    made.enter(1, HEAD);
+    made.extend(1, 1, 1000, HEAD + 1000);
+    made.report(HEAD, 0, Order::Drive(CAP), REACH);
+    made.report(HEAD + 7, 7, Order::Brake, REACH);
+    made.assert_kept();
+}
+
+#[test]
+fn figures_that_are_not_the_consists_are_refused() {
+    let Brake { full, growth } = brake();
+    for wrong in [
+        [full + 1, growth, HEAD],
+        [full, growth - 1, HEAD],
+        [full, growth, HEAD + 1],
     ] {
-        made.accepted(Call::Hold { id: 1 });
-        for _ in 1..held_count() {
-            made.report(1, 10_000_000, 1);
-        }
-        end_of_hold.into_iter().for_each(|call| made.accepted(call));
-        made.report(1, 10_000_000, 1);
+        let mut made = Made::line();
+        made.enter_with(1, HEAD, wrong);
+        made.assert_broken("by its entering");
+    }
+}
+
+#[test]
+fn report_within_the_answered_order_is_taken() {
+    for (head, speed, reach) in [
+        (HEAD, 0, HEAD),
+        (HEAD, 7, REACH - 7),
+        (HEAD + 7, 0, HEAD + 7),
+        (HEAD + 7, 7, REACH),
+    ] {
+        let mut made = Made::driving();
+        made.report(head, speed, Order::Brake, reach);
+        made.assert_kept();
+    }
+}
+
+#[test]
+fn report_behind_the_last_head_is_refused() {
+    let mut made = Made::driving();
+    made.report(HEAD - 1, 0, Order::Brake, HEAD - 1);
+    made.assert_broken("behind its last head");
+}
+
+#[test]
+fn report_beyond_the_answered_order_is_refused() {
+    let mut made = Made::driving();
+    made.report(HEAD + 8, 7, Order::Brake, REACH + 1);
+    made.assert_broken("beyond the worst case");
+}
+
+#[test]
+fn report_faster_than_the_answered_order_is_refused() {
+    let mut made = Made::driving();
+    made.report(HEAD + 7, 8, Order::Brake, HEAD + 7 + 17);
+    made.assert_broken("faster than the worst case");
+}
+
+/// The train drove, but brake was what it was answered.
+#[test]
+fn report_of_a_driven_cycle_after_brake_is_refused() {
+    let mut made = Made::one_train(1000);
+    made.stand(1, HEAD);
+    made.report(HEAD + 1, 1, Order::Brake, HEAD + 4);
+    made.assert_broken("beyond the worst case");
+}
+
+/// After the driven cycle the brake has level 0, and j one cycle later.
+#[test]
+fn level_of_the_brake_is_worked_out_from_the_answered_orders() {
+    let braked_once = || {
+        let mut made = Made::driving();
+        made.report(HEAD + 7, 7, Order::Brake, REACH);
+        made.report(HEAD + 7 + 14, 7, Order::Brake, REACH);
+        made
+    };
+    braked_once().assert_kept();
+    let mut made = braked_once();
+    made.report(REACH, 1, Order::Brake, REACH + 1);
+    made.assert_broken("faster than the worst case");
+    // Driven again, the train is at level 0 again.
+    let mut made = braked_once();
+    made.report(REACH, 0, Order::Drive(CAP), REACH + 22);
+    made.report(REACH + 7, 7, Order::Brake, REACH + 22);
+    made.report(REACH + 7 + 14, 7, Order::Brake, REACH + 22);
+    made.assert_kept();
+}
+
+#[test]
+fn answer_that_is_no_order_is_refused() {
+    for values in [[0, 0, HEAD], [2, 1, HEAD], [3, 0, HEAD]] {
+        let mut made = Made::one_train(1000);
+        made.report_with(1, HEAD, 0, values);
+        made.assert_broken("no order");
+    }
+}
+
+#[test]
+fn drive_to_a_held_train_is_refused() {
+    let mut made = Made::one_train(1000);
+    made.accepted(Call::Hold { id: 1 });
+    made.report(HEAD, 0, Order::Drive(0), HEAD);
+    made.assert_broken("is held, but may drive");
+}
+
+#[test]
+fn cap_beyond_engine_or_ceiling_is_refused() {
+    let far = 100_000_000;
+    let mut made = Made::one_train(far);
+    made.report(HEAD, 0, Order::Drive(TRACTION + 1), HEAD + far);
+    made.assert_broken("too great a cap");
+
+    let mut made = Made::one_train(far);
+    let mut motion = Motion {
+        head: HEAD,
+        speed: 0,
+        level: 0,
+    };
+    while motion.speed < CEILING {
+        let order = Order::Drive(TRACTION);
+        let reach = motion.reach(order, brake());
+        made.report(motion.head, motion.speed, order, reach);
+        motion = motion.worst(order, brake());
     }
     made.assert_kept();
+    made.report(motion.head, motion.speed, Order::Drive(1), HEAD + far);
+    made.assert_broken("too great a cap");
+}
+
+#[test]
+fn reach_of_another_order_is_refused() {
+    for wrong in [REACH - 1, REACH + 1] {
+        let mut made = Made::one_train(1000);
+        made.report(HEAD, 0, Order::Drive(CAP), wrong);
+        made.assert_broken("by its order");
+    }
+    let mut made = Made::one_train(1000);
+    made.report(HEAD, 0, Order::Brake, HEAD + 1);
+    made.assert_broken("by its order");
+}
+
+#[test]
+fn reach_past_the_end_is_refused() {
+    let mut made = Made::one_train(REACH - HEAD);
+    made.report(HEAD, 0, Order::Drive(CAP), REACH);
+    made.assert_kept();
+    let mut made = Made::one_train(REACH - HEAD - 1);
+    made.report(HEAD, 0, Order::Drive(CAP), REACH);
+    made.assert_broken("the reach of train 1 is past its end");
 }
 
 #[test]
@@ -240,7 +427,7 @@ fn refused_calls_count_nowhere() {
         head: LINE_END + 1,
         speed: 1,
     };
-    made.answered(report, Answer::refused(9));
+    made.answered(report, Answer::refused(Refusal::ReportNotAllowed));
     made.assert_kept();
 }
 

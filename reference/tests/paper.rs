@@ -1,9 +1,8 @@
 //! Document 01's own examples: the worked session and the starred values.
 
 use reference::brake::{application_cycles, full_brake, Brake};
-use reference::call::{Answer, Call, Entry, Settings};
+use reference::call::{Answer, Call, Entry, Refusal, Settings};
 use reference::compare;
-use reference::fault::Fault;
 use reference::line::Line;
 use reference::motion::{greatest_cap, stop_travel, Bounds, Motion};
 use reference::session;
@@ -53,7 +52,7 @@ fn extension() -> Call {
 
 /// The table before the last line of the worked session.
 fn line() -> Line {
-    let mut line = Line::open(settings(), Fault::None).expect("the settings are in range");
+    let mut line = Line::open(settings()).expect("the settings are in range");
     for call in [
         Call::Enter(entry()),
         report(HEAD, 0),
@@ -83,7 +82,7 @@ fn worked_session() -> Vec<u8> {
 
 #[test]
 fn worked_session_has_the_printed_output() {
-    let output = session::run(&worked_session(), Fault::None);
+    let output = session::run(&worked_session());
     assert_eq!(String::from_utf8_lossy(&output), OUTPUT);
 }
 
@@ -92,6 +91,18 @@ fn program_gives_the_printed_output() {
     let output = compare::run(&compare::program(), &worked_session());
     let output = output.unwrap_or_else(|message| panic!("{message}"));
     assert_eq!(String::from_utf8_lossy(&output), OUTPUT);
+}
+
+/// README prints the worked session with both call-back examples.
+#[test]
+fn program_gives_the_output_in_readme() {
+    let readme = include_str!("../../README.md");
+    let blocks: Vec<&str> = readme.split("```\n").collect();
+    let (input, printed) = (blocks[1], blocks[3]);
+    assert!(input.starts_with(&String::from_utf8_lossy(&worked_session())[..73]));
+    let output = compare::run(&compare::program(), input.as_bytes());
+    let output = output.unwrap_or_else(|message| panic!("{message}"));
+    assert_eq!(String::from_utf8_lossy(&output), printed);
 }
 
 #[test]
@@ -108,7 +119,7 @@ fn call_back_is_judged_from_the_reach() {
             assert!(line.call(call).is_accepted());
         }
         let too_low = HEAD + 19_997;
-        assert_eq!(line.call_back(7, too_low), Answer::refused(14));
+        assert_eq!(line.call_back(7, too_low), Answer::refused(Refusal::Place));
         assert_eq!(line.call_back(7, too_low + 1), Answer::DONE);
         assert_eq!(line.trains()[0].end, too_low + 1);
         // The repeat is answered with the end of now.
@@ -119,13 +130,13 @@ fn call_back_is_judged_from_the_reach() {
 
 #[test]
 fn application_cycles_are_the_starred_ones() {
-    let cycles = [1, 2345, 10_000].map(|feet| application_cycles(feet, Fault::None));
+    let cycles = [1, 2345, 10_000].map(application_cycles);
     assert_eq!(cycles, [123, 504, 1961]);
 }
 
 #[test]
 fn full_brakes_are_the_starred_ones() {
-    let full = [1, 2, 3].map(|class| full_brake(class, Fault::None));
+    let full = [1, 2, 3].map(full_brake);
     assert_eq!(full, [Some(133_303), Some(162_039), Some(87_021)]);
 }
 
@@ -135,13 +146,13 @@ fn stop_travels_are_the_starred_ones() {
         full: 133_303,
         growth: 264,
     };
-    let travels = [0, 1, 100, 264, 265].map(|speed| stop_travel(speed, 0, brake, Fault::None));
+    let travels = [0, 1, 100, 264, 265].map(|speed| stop_travel(speed, 0, brake));
     assert_eq!(travels, [0, 3, 238, 792, 797]);
 }
 
 #[test]
 fn cap_on_20000_free_steps_is_the_starred_one() {
-    let brake = Brake::of_consist(2345, 1, Fault::None).expect("the consist is in range");
+    let brake = Brake::of_consist(2345, 1).expect("the consist is in range");
     let standing = Motion {
         head: 0,
         speed: 0,
@@ -152,26 +163,30 @@ fn cap_on_20000_free_steps_is_the_starred_one() {
         traction: 3726,
         end: 20_000,
     };
-    let found = greatest_cap(standing, brake, bounds, Fault::None);
+    let found = greatest_cap(standing, brake, bounds);
     assert_eq!(found, Some((2537, 19_998)));
 }
 
 #[test]
 fn consist_out_of_range_is_refused_by_4() {
     for (feet, class) in [(0, 1), (10_001, 1), (2345, 0), (2345, 4)] {
-        let mut line = Line::open(settings(), Fault::None).expect("the settings are in range");
+        let mut line = Line::open(settings()).expect("the settings are in range");
         let answer = line.enter(Entry {
             feet,
             class,
             ..entry()
         });
-        assert_eq!(answer, Answer::refused(4), "{feet} ft, class {class}");
+        assert_eq!(
+            answer,
+            Answer::refused(Refusal::Entry),
+            "{feet} ft, class {class}"
+        );
     }
 }
 
 #[test]
 fn held_count_is_the_printed_one() {
-    let brake = Brake::of_consist(2345, 1, Fault::None).expect("the consist is in range");
+    let brake = Brake::of_consist(2345, 1).expect("the consist is in range");
     assert_eq!(brake.held_count(26_822_400), 708);
 }
 
@@ -179,7 +194,7 @@ fn held_count_is_the_printed_one() {
 fn growth_and_counts_stay_in_the_stated_bounds() {
     let brakes: Vec<Brake> = (1..=3)
         .flat_map(|class| (1..=10_000).map(move |feet| (feet, class)))
-        .filter_map(|(feet, class)| Brake::of_consist(feet, class, Fault::None))
+        .filter_map(|(feet, class)| Brake::of_consist(feet, class))
         .collect();
     assert_eq!(brakes.len(), 30_000);
     let growths = brakes.iter().map(|brake| brake.growth);

@@ -1,14 +1,19 @@
 //! How the program under test reads and writes: pieces, waiting, long lines,
 //! closed output. What it answers is compared with the second implementation.
+//! And how the script `session` starts it, short of proving, and how it goes
+//! on after a stop.
 
 use reference::compare::{must_exist, program, run};
-use reference::fault::Fault;
 use reference::generate::{list, Kind};
 use reference::random::Random;
 use reference::session;
-use reference::wire::ANSWER_BYTES;
-use std::io::{ErrorKind, Read, Write};
-use std::process::{Child, ChildStdin, ChildStdout, Command, Stdio};
+use reference::wire::{lines, ANSWER_BYTES, CALL_BYTES};
+use std::fs;
+use std::io::{BufRead, BufReader, ErrorKind, Read, Write};
+use std::os::unix::fs::symlink;
+use std::os::unix::process::CommandExt;
+use std::path::{Path, PathBuf};
+use std::process::{Child, ChildStdin, ChildStdout, Command, Output, Stdio};
 use std::thread;
 use std::time::{Duration, Instant};
 
@@ -33,11 +38,15 @@ impl Running {
     fn start() -> Running {
         let program = program();
         must_exist(&program).unwrap_or_else(|message| panic!("{message}"));
-        let mut child = Command::new(&program)
+        Running::of(&mut Command::new(program))
+    }
+
+    fn of(command: &mut Command) -> Running {
+        let mut child = command
             .stdin(Stdio::piped())
             .stdout(Stdio::piped())
             .spawn()
-            .unwrap_or_else(|error| panic!("{} cannot be started: {error}", program.display()));
+            .unwrap_or_else(|error| panic!("{command:?} cannot be started: {error}"));
         let (input, output) = (child.stdin.take(), child.stdout.take());
         Running {
             child,
@@ -103,7 +112,7 @@ impl Running {
     /// The greatest resident memory so far, in kilobytes.
     fn peak_memory(&self) -> u64 {
         let file = format!("/proc/{}/status", self.child.id());
-        let status = std::fs::read_to_string(file).expect("the program is alive");
+        let status = fs::read_to_string(file).expect("the program is alive");
         let line = status.lines().find(|line| line.starts_with("VmHWM:"));
         let number = line.and_then(|line| line.split_whitespace().nth(1));
         number.and_then(|n| n.parse().ok()).expect("a VmHWM line")
@@ -155,8 +164,8 @@ fn line_may_come_byte_by_byte() {
 fn pieces_give_the_same_output_as_the_whole() {
     let mut random = Random::new(3);
     for kind in [Kind::Garbage, Kind::Tight, Kind::Openings] {
-        let input = list(11, kind, Fault::None);
-        let expected = session::run(&input, Fault::None);
+        let input = list(11, kind);
+        let expected = session::run(&input);
         let mut running = Running::start();
         let mut left = &input[..];
         while !left.is_empty() {
@@ -285,4 +294,276 @@ fn closed_output_ends_the_program() {
     let error = writer.join().expect("the writer ends");
     assert!(ended, "it runs on though its output is closed");
     assert_eq!(error, ErrorKind::BrokenPipe);
+}
+
+const SCRIPT: &str = concat!(env!("CARGO_MANIFEST_DIR"), "/../session");
+
+fn script(words: &[&str]) -> (Output, String) {
+    let mut command = Command::new(SCRIPT);
+    command.args(words).stdin(Stdio::null());
+    let output = command.output().expect("the script runs");
+    let told = String::from_utf8_lossy(&output.stderr).into_owned();
+    (output, told)
+}
+
+#[test]
+fn script_has_a_help() {
+    let (output, told) = script(&["--help"]);
+    let help = String::from_utf8_lossy(&output.stdout);
+    assert!(output.status.success(), "{}", output.status);
+    assert_eq!(told, "");
+    for word in ["usage: ./session", "take off", "README.md", "Exit status"] {
+        assert!(help.contains(word), "{word}: {help}");
+    }
+}
+
+#[test]
+fn script_refuses_other_arguments() {
+    for words in [&["--helm"][..], &[""], &["sample.txt"], &["--help", "x"]] {
+        let (output, told) = script(words);
+        assert_eq!(output.status.code(), Some(2), "{words:?}");
+        assert_eq!(output.stdout, b"");
+        assert_eq!(told.lines().count(), 1, "{told}");
+    }
+}
+
+/// A folder of its own, with something in it to run as `./session`.
+struct Folder {
+    path: PathBuf,
+}
+
+impl Folder {
+    fn with_session(name: &str, session: impl AsRef<Path>) -> Folder {
+        let name = format!("{name}-{}", std::process::id());
+        let path = Path::new(env!("CARGO_TARGET_TMPDIR")).join(name);
+        fs::create_dir_all(&path).expect("a folder");
+        symlink(session, path.join("session")).expect("a link");
+        Folder { path }
+    }
+
+    fn file(&self, name: &str) -> PathBuf {
+        self.path.join(name)
+    }
+
+    fn read(&self, name: &str) -> Vec<u8> {
+        fs::read(self.file(name)).unwrap_or_default()
+    }
+}
+
+impl Drop for Folder {
+    fn drop(&mut self) {
+        // A folder left there harms nobody.
+        let _ = fs::remove_dir_all(&self.path);
+    }
+}
+
+/// The script in a project with a made-up prover, so that nothing has to be
+/// proved.
+fn start_script(folder: &Folder, prover: &str) -> Child {
+    fs::create_dir(folder.file("crates")).expect("a folder");
+    fs::write(folder.file("crates.txt"), "").expect("a file");
+    Command::new(folder.file("session"))
+        // Bash takes a function from the environment as a command.
+        .env("BASH_FUNC_rt%%", format!("() {{ {prover}\n}}"))
+        .stdin(Stdio::null())
+        .stdout(Stdio::piped())
+        .stderr(Stdio::piped())
+        .spawn()
+        .expect("the script runs")
+}
+
+/// The prover waits after its first crate until the test has seen the line.
+#[test]
+fn script_shows_each_crate_when_it_is_done() {
+    let folder = Folder::with_session("proving", SCRIPT);
+    let mut child = start_script(
+        &folder,
+        "echo fn one::f: proved; echo 'rt: one proved (1 s)'
+        while [ ! -e seen ]; do sleep 0.01; done
+        echo 'rt: session proved (2 s)'
+        mkdir -p target/bin; echo 'echo run' > target/bin/session; chmod +x target/bin/session",
+    );
+    let mut told = BufReader::new(child.stderr.take().expect("its errors")).lines();
+    let mut next = || told.next().map(|line| line.expect("text"));
+    assert!(next().is_some_and(|line| line.starts_with("session: proving")));
+    assert_eq!(next().as_deref(), Some("rt: one proved (1 s)"));
+    fs::write(folder.file("seen"), "").expect("a file");
+    assert_eq!(next().as_deref(), Some("rt: session proved (2 s)"));
+    assert_eq!(next(), None);
+    let output = child.wait_with_output().expect("the script ends");
+    assert_eq!(output.stdout, b"run\n");
+}
+
+#[test]
+fn script_shows_all_where_the_proof_fails() {
+    let folder = Folder::with_session("refused", SCRIPT);
+    let child = start_script(
+        &folder,
+        "echo 'rt: one proved (1 s)'; echo error: no; echo 'rt: FAILED: session'; exit 3",
+    );
+    let output = child.wait_with_output().expect("the script ends");
+    let told = String::from_utf8_lossy(&output.stderr);
+    assert_eq!(output.status.code(), Some(1));
+    assert!(told.ends_with("rt: one proved (1 s)\nerror: no\nrt: FAILED: session\n"));
+    assert_eq!(output.stdout, b"");
+}
+
+/// README's lines for a start and each start after a stop.
+fn kept_commands() -> String {
+    let readme = include_str!("../../README.md");
+    let section = readme.split_once("## Running it on a line\n");
+    let (_, section) = section.expect("README has the section");
+    let is_command = |line: &&str| line.starts_with("    ");
+    let from_first = section.lines().skip_while(|line| !is_command(line));
+    let commands: Vec<&str> = from_first.take_while(is_command).collect();
+    commands.join("\n")
+}
+
+/// How a run stops.
+#[derive(Clone, Copy, Debug, PartialEq, Eq)]
+enum Stop {
+    KilledInALine,
+    InputEndsInALine,
+    /// A whole call is in its log, but its answer is not.
+    KilledBeforeAnAnswer,
+}
+
+impl Stop {
+    const ALL: [Stop; 3] = [
+        Stop::KilledInALine,
+        Stop::InputEndsInALine,
+        Stop::KilledBeforeAnAnswer,
+    ];
+}
+
+/// A line whose calls and answers are kept, as its users see it.
+struct Kept {
+    folder: Folder,
+    received: String,
+    /// Whether the last stop left a call that has no answer yet.
+    owed: bool,
+}
+
+impl Kept {
+    fn new(name: &str) -> Kept {
+        let program = fs::canonicalize(program()).expect("the program is built");
+        Kept {
+            folder: Folder::with_session(name, program),
+            received: String::new(),
+            owed: false,
+        }
+    }
+
+    fn commands(&self) -> Command {
+        let mut command = Command::new("bash");
+        command
+            .args(["-c", &kept_commands()])
+            .current_dir(&self.folder.path);
+        command
+    }
+
+    fn start(&mut self) -> Running {
+        // The group is what a stop kills.
+        let mut running = Running::of(self.commands().process_group(0));
+        if self.owed {
+            self.received += &running.answer();
+        }
+        running
+    }
+
+    /// Sends the calls one by one, each after the answer to the one before.
+    fn send(&mut self, running: &mut Running, calls: &[&[u8]]) {
+        for call in calls {
+            running.write(call);
+            self.received += &running.answer();
+        }
+    }
+
+    /// Stops a run to which this call was just sent, or the first part of it.
+    fn stop(&mut self, mut running: Running, how: Stop, call: &[u8], part: usize) {
+        let part = &call[..part];
+        self.owed = true;
+        self.received += &match how {
+            Stop::KilledInALine => {
+                self.write_to_the_log(&mut running, part);
+                killed(running)
+            }
+            Stop::InputEndsInALine => {
+                self.owed = false;
+                running.write(part);
+                running.finish()
+            }
+            Stop::KilledBeforeAnAnswer => {
+                let rest = killed(running);
+                let log = [self.folder.read("calls.log"), call.to_vec()];
+                fs::write(self.folder.file("calls.log"), log.concat()).expect("a file");
+                rest
+            }
+        };
+    }
+
+    fn write_to_the_log(&self, running: &mut Running, part: &[u8]) {
+        let bytes = || self.folder.read("calls.log").len();
+        let goal = bytes() + part.len();
+        running.write(part);
+        let begin = Instant::now();
+        while bytes() < goal && begin.elapsed() < PATIENCE {
+            thread::sleep(Duration::from_millis(1));
+        }
+    }
+}
+
+/// Kills a run with all its programs, and gives what is left of its output.
+fn killed(mut running: Running) -> String {
+    let kill = format!("kill -KILL -- -{}", running.child.id());
+    let status = Command::new("bash").args(["-c", &kill]).status();
+    assert!(status.is_ok_and(|status| status.success()), "{kill}");
+    let mut rest = String::new();
+    let mut output = running.output.take().expect("the output is open");
+    output.read_to_string(&mut rest).expect("answers are text");
+    rest
+}
+
+/// Whatever stops it, each call is answered once, and as if it never stopped.
+#[test]
+fn stopped_line_goes_on_where_it_stopped() {
+    const ROUNDS: usize = 8;
+    let mut random = Random::new(5);
+    let list = list(9, Kind::Tight);
+    let calls: Vec<&[u8]> = lines(&list).collect();
+    let mut kept = Kept::new("kept");
+    let mut next = 0;
+    for how in Stop::ALL.repeat(ROUNDS) {
+        let mut running = kept.start();
+        let count = random.below(20) as usize;
+        kept.send(&mut running, &calls[next..next + count]);
+        next += count;
+        let part = random.between(1, CALL_BYTES as u64) as usize;
+        kept.stop(running, how, calls[next], part);
+        next += usize::from(how == Stop::KilledBeforeAnAnswer);
+    }
+    let mut running = kept.start();
+    kept.send(&mut running, &calls[next..]);
+    assert_eq!(running.finish(), "");
+
+    let log = kept.folder.read("calls.log");
+    assert_eq!(kept.received.as_bytes(), session::run(&log));
+    assert_eq!(kept.received.as_bytes(), kept.folder.read("answers.log"));
+    // A line that a stop cut stays in the log, and is sent again.
+    let (cut, whole): (Vec<&[u8]>, Vec<&[u8]>) =
+        lines(&log).partition(|line| line.ends_with(b"x\n"));
+    assert_eq!(whole, calls);
+    assert_eq!(cut.len(), 2 * ROUNDS);
+}
+
+/// Answers that are not those of the calls are told, and nothing goes out.
+#[test]
+fn logs_that_do_not_fit_are_told() {
+    let kept = Kept::new("unfit");
+    fs::write(kept.folder.file("calls.log"), ENTERING).expect("a file");
+    fs::write(kept.folder.file("answers.log"), DONE).expect("a file");
+    let mut commands = kept.commands();
+    let output = commands.stdin(Stdio::null()).output().expect("they run");
+    assert_eq!(output.stdout, b"");
+    assert!(String::from_utf8_lossy(&output.stderr).contains("differ"));
 }

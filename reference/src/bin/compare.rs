@@ -1,7 +1,8 @@
 //! Compares the session program with the second implementation on many
 //! generated lists, and checks demand 3's claim on what it answers.
 
-use reference::compare::{self, Counts, Failure, ANSWERS, CODES};
+use reference::call::Code;
+use reference::compare::{self, Counts, Failure, ANSWERS};
 use reference::generate;
 use reference::ranges::all_consists;
 use reference::wire::lines;
@@ -12,17 +13,6 @@ use std::time::Instant;
 
 const DEFAULT_SEED: u64 = 20_260_101;
 const DEFAULT_LINES: u64 = 600_000;
-const NAMES: [&str; CODES] = [
-    "unreadable",
-    "open",
-    "enter",
-    "report",
-    "extend",
-    "call back",
-    "hold",
-    "lift",
-    "take off",
-];
 const USAGE: &str = "usage: compare [--seed N] [--lines N] [--program PATH] [--replay FILE]";
 
 struct Options {
@@ -159,8 +149,10 @@ fn clear_progress() {
 }
 
 fn print_table(counts: &Counts) {
-    print!("{:>10}", "answer");
-    NAMES.iter().for_each(|name| print!("{name:>11}"));
+    print!("{:>10}{:>11}", "answer", "unreadable");
+    Code::ALL
+        .iter()
+        .for_each(|code| print!("{:>11}", format!("{code:?}")));
     println!("{:>11}", "all");
     for number in 0..ANSWERS {
         print!("{number:>10}");
@@ -174,7 +166,7 @@ fn print_table(counts: &Counts) {
         "{} lines in {} lists, {} reports",
         counts.lines,
         counts.lists,
-        counts.by_code(3)
+        counts.by_code(Code::Report)
     );
     println!(
         "{} drive as far as engine and ceiling allow, {} less, {} brake",

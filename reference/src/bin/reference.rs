@@ -1,6 +1,5 @@
 //! The second implementation as a program: standard input to standard output.
 
-use reference::fault::Fault;
 use reference::session::Session;
 use std::io::{self, Read, Write};
 use std::process::ExitCode;
@@ -17,7 +16,7 @@ fn main() -> ExitCode {
 /// Writes the answers to all whole lines read before it waits for more.
 fn serve() -> io::Result<()> {
     let (mut input, mut output) = (io::stdin().lock(), io::stdout().lock());
-    let mut session = Session::new(Fault::None);
+    let mut session = Session::default();
     let mut block = vec![0; BLOCK];
     let mut answers = Vec::with_capacity(BLOCK);
     loop {
