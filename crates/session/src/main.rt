@@ -1,72 +1,143 @@
 // The session program: reads calls from standard input and writes one output line for each input line. Thin: everything that matters
-// is in `stream`.
+// is in `stream`. No contract can say which bytes `read` and `write` move. So what is read here is what stands in the buffer after a
+// read, and what is written is what `write_answers` and `write_last` require of the bytes that they are given: nothing else writes.
+ghost use mathlib.Core.Path.{_≡_};
+ghost use Prim.Native.Nat.{_*_, _≤_, _<_};
+ghost use lib.ListN.{length, take};
+ghost use Rattle.stream.specs.Input.{lastAnswer, begun, outputWidth, answersTo, Turn};
+ghost use Rattle.session.specs.Program.{TookIn, Stopped, Whole};
 use stream::Stream;
 
-// What comes after a read.
-enum Next {
-    More,
-    End,
-    Stop,
-}
-
+// What comes of a turn: the stream after it, how many bytes were read, and whether the answers could be written.
 struct After {
     stream: Stream,
-    next: Next,
+    count: usize,
+    written: bool,
 }
 
-// Reads once, and writes the answers to all lines that are whole by then: a train waits at the other end. Where standard output cannot
-// be written it stops. `out` has room for every piece, so that each is taken.
-fn turn(x: Stream, piece: &mut [u8], out: &mut [u8]) -> After {
+// What comes of all turns: the stream after them, how many bytes were read, whether the input ended, and whether the answers could be
+// written.
+struct Ran {
+    stream: Stream,
+    read: usize,
+    ended: bool,
+    written: bool,
+}
+
+// What comes of a session: the same, and how many bytes its last answer has.
+struct Served {
+    read: usize,
+    ended: bool,
+    written: bool,
+    last: usize,
+}
+
+// Writes the answers to the lines that a piece ends. The stream and the piece are for the contract.
+fn write_answers(x: Stream, piece: &[u8], bytes: &[u8]) -> bool
+    requires { ⌜ now bytes ≡ answersTo x (now piece) ⌝ }
+{
+    io::write_all(1, bytes)
+}
+
+// Writes the answer to a last line without its line feed. The stream is for the contract.
+fn write_last(x: Stream, bytes: &[u8]) -> bool
+    requires { ⌜ now bytes ≡ lastAnswer (begun x) ⌝ }
+{
+    io::write_all(1, bytes)
+}
+
+// Reads once, and writes the answers to all lines that are whole by then: a train waits at the other end. `out` has room for every
+// piece, so that each is taken. At the end of the input the piece is empty.
+fn turn(x: Stream, piece: &mut [u8], out: &mut [u8]) -> After
+    requires { ⌜ outputWidth * length (now piece) ≤ length (now out) ⌝ }
+    ensures { λ r. ⌜ (r .count ≤ length (now (piece .exit))) × Turn x (take (r .count) (now (piece .exit))) (r .stream) ⌝ }
+{
     let got = libc::read(0, piece);
     let n = io::count(got, piece);
-    if n == 0 {
-        return After {
-            stream: x,
-            next: Next::End,
-        };
-    }
     let fed = stream::feed(x, &piece[..n], out);
-    let count = fed.count;
     let stream = fed.stream;
-    if io::write_all(1, &out[..count]) {
-        return After {
-            stream,
-            next: Next::More,
-        };
-    }
+    let count = fed.count;
+    let written = write_answers(x, &piece[..n], &out[..count]);
     After {
         stream,
-        next: Next::Stop,
+        count: n,
+        written,
     }
 }
 
-// At the end of the input: the answer to a last line without its line feed.
-fn close(x: Stream, out: &mut [u8]) {
-    let n = stream::finish(x, out);
-    io::write_all(1, &out[..n]);
+// Reads to the end of the input, or until standard output cannot be written. A proved loop has to end, and nothing says that an input
+// does. So the loop counts the bytes, up to a number that no run reaches.
+fn run(x: Stream, piece: &mut [u8], out: &mut [u8]) -> Ran
+    requires { ⌜ outputWidth * length (now piece) ≤ length (now out) ⌝ }
+    ensures { λ r. ⌜ TookIn x (r .read) (r .stream) × Stopped (r .ended) (r .written) (r .read) (now (piece .exit)) ⌝ }
+{
+    let mut y = x;
+    let mut read: usize = 0;
+    while read <= usize::MAX - piece.len() {
+        let t = turn(y, piece, out);
+        let n = t.count;
+        let written = t.written;
+        y = t.stream;
+        read += n;
+        if n == 0 {
+            return Ran {
+                stream: y,
+                read,
+                ended: true,
+                written,
+            };
+        }
+        if !written {
+            return Ran {
+                stream: y,
+                read,
+                ended: false,
+                written,
+            };
+        }
+    }
+    Ran {
+        stream: y,
+        read,
+        ended: false,
+        written: true,
+    }
 }
 
-// Reads to the end of the input. A proved loop has to end, and nothing says that an input does. So the loop counts its turns down,
-// from a number that no run uses up.
-fn run(piece: &mut [u8], out: &mut [u8]) {
-    let mut x = stream::start();
-    let mut turns = u64::MAX;
-    while turns > 0 {
-        let t = turn(x, piece, out);
-        x = t.stream;
-        let next = t.next;
-        match next {
-            Next::More => {
-                turns -= 1;
-            }
-            Next::End => {
-                close(x, out);
-                return;
-            }
-            Next::Stop => {
-                return;
-            }
-        }
+// At the end of the input: writes the answer to a last line without its line feed, and tells how many bytes that is.
+fn close(x: Stream, out: &mut [u8]) -> usize
+    requires { ⌜ outputWidth ≤ length (now out) ⌝ }
+    ensures { λ r. ⌜ take r (now (out .exit)) ≡ lastAnswer (begun x) ⌝ }
+{
+    let f = stream::finish(x, out);
+    let n = f.count;
+    write_last(x, &out[..n]);
+    n
+}
+
+// A whole session. An empty piece would never show more than the end of the input.
+fn serve(piece: &mut [u8], out: &mut [u8]) -> Served
+    requires { ⌜ (0 < length (now piece)) × (outputWidth * length (now piece) ≤ length (now out)) ⌝ }
+    ensures { λ r. ⌜ Whole (r .read) (r .ended) (take (r .last) (now (out .exit))) × Stopped (r .ended) (r .written) (r .read) (now (piece .exit)) ⌝ }
+{
+    let r = run(stream::start(), piece, out);
+    let read = r.read;
+    let ended = r.ended;
+    let written = r.written;
+    if !ended {
+        return Served {
+            read,
+            ended,
+            written,
+            last: 0,
+        };
+    }
+    let x = r.stream;
+    Served {
+        read,
+        ended,
+        written,
+        last: close(x, out),
     }
 }
 
@@ -79,5 +150,5 @@ const OUT: usize = PIECE * stream::OUTPUT_WIDTH;
 fn main() {
     let mut piece = [0u8; PIECE];
     let mut out = [0u8; OUT];
-    run(&mut piece, &mut out);
+    serve(&mut piece, &mut out);
 }

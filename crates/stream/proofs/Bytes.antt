@@ -7,14 +7,13 @@ use mathlib.Core.List.{List, [], _∷_, _++_}
 use lib.ListN.{length, take, drop, set, length-take, length-append}
 use lib.Seq.{take-suc-set, take-all, take-take, take-at, getD-at, drop-drop, paste, paste-suc, length-paste, take-paste, drop-paste}
 use lib.Dec.{leb}
-use borrow.Author.Tests.{le-leb, lt-leb, leb-true, leb-false}
+use borrow.Author.Tests.{leb-true, leb-false}
 use Rattle.logic.proofs.Tests.{by-test}
 use Rattle.calls.specs.declared.Numbers.{Numbers}
 use Rattle.calls.specs.Answers.{numbers}
 use Rattle.wire.specs.Format.{answerWidth, answerText}
 use Rattle.wire.proofs.RoundTrip.{answer-long}
-use Rattle.stream.specs.declared.Stream.{Stream}
-use Rattle.stream.specs.Input.{outputLine, lastAnswer, keptWidth, kept, outputWidth, over, lastWritten}
+use Rattle.stream.specs.Input.{outputLine, lastAnswer, keptWidth, kept, outputWidth, over}
 
 -- so many of the first n bytes are kept
 pub keep-first : (l : List ℕ) (n r : ℕ) → r ≡ min n keptWidth → take r l ≡ kept (take n l)
@@ -70,28 +69,33 @@ output-first out a =
     let long = output-long a in
     ap (λ (l : List ℕ). l ++ drop outputWidth out) (take-all outputWidth (outputLine a) (omega arith)) ∙ ap (λ (n : ℕ). outputLine a ++ drop n out) (sym long)
 
-some-answer : (bytes : List ℕ) (count : ℕ) → 0 < length bytes → (count ≡ 0 → ⊥) → lastAnswer (take count bytes) ≡ outputLine (numbers 1 0 0 0)
+-- no line has begun
+pub none-begun : (bytes : List ℕ) (count : ℕ) → count ≡ 0 → lastAnswer (take count bytes) ≡ []
 unfolding lastAnswer
-some-answer [] count l n = absurd (omega arith)
-some-answer (b ∷ bytes) zero l n = absurd (n refl)
-some-answer (b ∷ bytes) (suc count) l n = refl
+none-begun bytes count e = rw e refl
 
-module _ (x : Stream) (out : List ℕ) where
-  -- no line has begun
-  pub none-begun : x .count ≡ 0 → lastWritten x out ≡ []
-  unfolding lastAnswer
-  none-begun e = rw e (by-test (leb outputWidth (length out)) (λ t. rw t refl) (λ t. rw t refl))
+-- a line has begun
+pub line-begun : (bytes : List ℕ) (count : ℕ) → 0 < length bytes → (count ≡ 0 → ⊥) → lastAnswer (take count bytes) ≡ outputLine (numbers 1 0 0 0)
+unfolding lastAnswer
+line-begun [] count l n = absurd (omega arith)
+line-begun (b ∷ bytes) zero l n = absurd (n refl)
+line-begun (b ∷ bytes) (suc count) l n = refl
 
-  -- there is no room
-  pub no-room : length out < outputWidth → lastWritten x out ≡ []
-  no-room h = rw (lt-leb outputWidth (length out) h) refl
+-- an output line at most
+pub last-long : (g : List ℕ) → length (lastAnswer g) ≤ outputWidth
+unfolding lastAnswer
+last-long [] = omega arith
+last-long (b ∷ g) = omega (arith, output-long (numbers 1 0 0 0))
 
-  -- a line has begun
-  pub line-begun : outputWidth ≤ length out → (x .count ≡ 0 → ⊥) → 0 < length (x .bytes) → lastWritten x out ≡ outputLine (numbers 1 0 0 0)
-  line-begun h n l = rw (le-leb outputWidth (length out) h) (some-answer (x .bytes) (x .count) l n)
+-- ---- what is written over the first bytes of a buffer
 
--- what is written over the first bytes is within the buffer
-pub over-within : (w out now : List ℕ) (n : ℕ) → now ≡ over w out → n ≡ length w → n ≤ length now
-over-within w out now n e f =
-    let long : length now ≡ length w + length (drop (length w) out) = ap length e ∙ length-append w (drop (length w) out) in
-    omega arith
+module _ (w out now : List ℕ) (n : ℕ) (e : now ≡ over w out) (f : n ≡ length w) where
+  -- it is within the buffer
+  pub over-within : n ≤ length now
+  over-within =
+      let long : length now ≡ length w + length (drop (length w) out) = ap length e ∙ length-append w (drop (length w) out) in
+      omega arith
+
+  -- and stands at its front
+  pub over-first : take n now ≡ w
+  over-first = ap (take n) e ∙ take-at w (drop (length w) out) n (sym f)

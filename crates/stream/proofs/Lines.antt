@@ -2,7 +2,7 @@
 use Prim.Native.Nat.{ℕ, zero, suc, _+_, _≤_, _<_}
 use native.Mathlib.Omega.{arith}
 use mathlib.Core.Path.{_≡_, refl, sym, ap, _∙_}
-use mathlib.Core.Bool.{Bool, true, false}
+use mathlib.Core.Bool.{true}
 use mathlib.Core.List.{List, [], _∷_, _++_, append-assoc, append-nil}
 use lib.Dec.{eqb, leb}
 use lib.ListN.{length, take, drop, getD, length-take, take-append-drop}
@@ -23,10 +23,9 @@ use Rattle.line.specs.Decide.{decideOn}
 use Rattle.line.proofs.Steps.{decided-fits, open-fits}
 use Rattle.stream.specs.declared.Session.{Session}
 use Rattle.stream.specs.declared.Stream.{Stream}
-use Rattle.stream.specs.declared.Fed.{Fed}
 use Rattle.stream.specs.Session.{outOfTurn, lineDecision, replied, answered}
-use Rattle.stream.specs.Input.{lines, rest, after, outputLine, answers, begun, keptWidth, kept, Taken, TakenOrLeft, FeedPromise}
-use Rattle.stream.proofs.Bytes.{keep-first, over-within}
+use Rattle.stream.specs.Input.{lines, rest, after, outputLine, answers, begun, keptWidth, kept, answersTo, Taken}
+use Rattle.stream.proofs.Bytes.{keep-first}
 
 -- Where a session stands once it has taken bytes in: the state, the line that has begun, and what has been written.
 pub record Standing : Type 0 where
@@ -112,6 +111,19 @@ pub standing-end : (s : Session) (g w : List ℕ) → standing s g w [] ≡ reco
 unfolding lines rest after answers
 standing-end s g w = ap (λ (v : List ℕ). record { session = s; begins = kept g; written = v }) (append-nil w)
 
+-- an input cut in two: the second part goes on where the first one stops
+pub standing-cut : (s : Session) (g w a b : List ℕ)
+    → standing s g w (a ++ b) ≡ standing (after s (lines g a)) (rest g a) (w ++ answers s (lines g a)) b
+unfolding lines rest after answers
+standing-cut s g w [] b = ap (λ (v : List ℕ). standing s g v b) (sym (append-nil w))
+standing-cut s g w (c ∷ a) b =
+    by-test (eqb c 10)
+    (λ e.
+    standing-line s g w c (a ++ b) (eqb-true c 10 e)
+    ∙ standing-cut (answered s g .session) [] (w ++ outputLine (answered s g .answer)) a b
+    ∙ simp (e, append-assoc))
+    (λ e. standing-byte s g w c (a ++ b) (eqb-false c 10 e) ∙ standing-cut s (g ++ (c ∷ [])) w a b ∙ simp e)
+
 -- ---- feeding a piece
 
 module _ (s : Session) (g w piece : List ℕ) (i : ℕ) (more : i < length piece) where
@@ -139,20 +151,14 @@ module _ (x : Stream) (piece before out bytes : List ℕ) (s : Session) (count a
       → standing (x .session) (begun x) [] piece ≡ record { session = s; begins = kept (take count bytes); written = take at out }
       → Taken x piece before (record { taken = true; stream = record { session = s; bytes = bytes; count = count }; count = at }) out
   piece-taken room bounded same e =
-      let w : answers (x .session) (lines (begun x) piece) ≡ take at out = ap (λ (z : Standing). z .written) e in
-      let n : at ≡ length (answers (x .session) (lines (begun x) piece)) = sym (ap length w ∙ length-take-le at out room) in
+      let w : answersTo x piece ≡ take at out = ap (λ (z : Standing). z .written) e in
+      let n : at ≡ length (answersTo x piece) = sym (ap length w ∙ length-take-le at out room) in
       record {
-        session = sym (ap (λ (z : Standing). z .session) e);
-        begins = keep-first bytes count count (omega arith) ∙ sym (ap (λ (z : Standing). z .begins) e);
-        written = sym (take-append-drop at out) ∙ ap (λ (l : List ℕ). l ++ drop at out) (sym w) ∙ ap (λ (l : List ℕ). answers (x .session) (lines (begun x) piece) ++ l) same
-            ∙ ap (λ (k : ℕ). answers (x .session) (lines (begun x) piece) ++ drop k before) n;
+        turn = record {
+          session = sym (ap (λ (z : Standing). z .session) e);
+          begins = keep-first bytes count count (omega arith) ∙ sym (ap (λ (z : Standing). z .begins) e);
+        };
+        written = sym (take-append-drop at out) ∙ ap (λ (l : List ℕ). l ++ drop at out) (sym w) ∙ ap (λ (l : List ℕ). answersTo x piece ++ l) same
+            ∙ ap (λ (k : ℕ). answersTo x piece ++ drop k before) n;
         count = n;
       }
-
--- what is counted is within out
-pub counted-within : (x : Stream) (piece out : List ℕ) (r : Fed) (now : List ℕ) → FeedPromise x piece out r now → r .count ≤ length now
-counted-within x piece out r now p = within (r .taken) (p .so)
-  where
-    within : (q : Bool) → TakenOrLeft q x piece out r now → r .count ≤ length now
-    within true t = over-within (answers (x .session) (lines (begun x) piece)) out now (r .count) (t .written) (t .count)
-    within false t = let none : r .count ≡ 0 = t .count in omega arith

@@ -1,5 +1,5 @@
 -- Document 01, "The session program": a whole input and its output. Then the same where the input comes in pieces.
-use Prim.Native.Nat.{ℕ, _+_, _/_, _≤_}
+use Prim.Native.Nat.{ℕ, _+_, _/_}
 use mathlib.Core.Path.{_≡_}
 use mathlib.Core.Bool.{Bool, true, false, cond}
 use mathlib.Core.List.{List, [], _∷_, _++_}
@@ -11,6 +11,7 @@ use Rattle.wire.specs.Format.{callWidth, answerWidth, answerText}
 use Rattle.stream.specs.declared.Session.{Session}
 use Rattle.stream.specs.declared.Stream.{Stream}
 use Rattle.stream.specs.declared.Fed.{Fed}
+use Rattle.stream.specs.declared.Finished.{Finished}
 use Rattle.stream.specs.Session.{closed, answered}
 
 -- ---- the whole input
@@ -72,12 +73,20 @@ hasRoom piece out = leb (length piece) (length out / outputWidth)
 abbrev pub over : List ℕ → List ℕ → List ℕ
 over w out = w ++ drop (length w) out
 
+-- the answers to the lines that a piece ends, from the stream x on
+abbrev pub answersTo : Stream → List ℕ → List ℕ
+answersTo x piece = answers (x .session) (lines (begun x) piece)
+
+-- A turn: a piece of the input takes the stream x to the stream y.
+pub record Turn (x : Stream) (piece : List ℕ) (y : Stream) : Type 0 where
+  pub session : y .session ≡ after (x .session) (lines (begun x) piece)
+  pub begins : begun y ≡ kept (rest (begun x) piece)
+
 -- Taken: the lines that the piece ends are answered; out holds their output lines, and after these what it held before.
 pub record Taken (x : Stream) (piece out : List ℕ) (r : Fed) (now : List ℕ) : Type 0 where
-  pub session : r .stream .session ≡ after (x .session) (lines (begun x) piece)
-  pub begins : begun (r .stream) ≡ kept (rest (begun x) piece)
-  pub written : now ≡ over (answers (x .session) (lines (begun x) piece)) out
-  pub count : r .count ≡ length (answers (x .session) (lines (begun x) piece))
+  pub turn : Turn x piece (r .stream)
+  pub written : now ≡ over (answersTo x piece) out
+  pub count : r .count ≡ length (answersTo x piece)
 
 -- Not taken, for want of room: nothing is altered.
 pub record Left (x : Stream) (out : List ℕ) (r : Fed) (now : List ℕ) : Type 0 where
@@ -94,25 +103,19 @@ pub record FeedPromise (x : Stream) (piece out : List ℕ) (r : Fed) (now : List
   pub taken : r .taken ≡ hasRoom piece out
   pub so : TakenOrLeft (r .taken) x piece out r now
 
--- What `finish` writes at the end of the input, where out has room for an output line.
-abbrev pub lastWritten : Stream → List ℕ → List ℕ
-lastWritten x out = cond (leb outputWidth (length out)) (lastAnswer (begun x)) []
+-- What `finish` writes where the end of the input is taken.
+abbrev pub lastWritten : Bool → Stream → List ℕ
+lastWritten taken x = cond taken (lastAnswer (begun x)) []
 
--- One turn of a program: `feed` takes a piece, and the bytes w that it counts in its buffer are written.
-pub record Turn (x : Stream) (piece : List ℕ) (y : Stream) (w : List ℕ) : Type 0 where
-  pub out : List ℕ
-  pub now : List ℕ
-  pub fed : Fed
-  pub promise : FeedPromise x piece out fed now
-  pub taken : fed .taken ≡ true
-  pub next : y ≡ fed .stream
-  pub written : w ≡ take (fed .count) now
+-- What `finish` promises of the stream x, the buffer out before and after it, and what it gives back. Without room for the answer to a
+-- last line the end of the input is not taken, and nothing is altered.
+pub record FinishPromise (x : Stream) (out : List ℕ) (r : Finished) (now : List ℕ) : Type 0 where
+  pub taken : r .taken ≡ leb (length (lastAnswer (begun x))) (length out)
+  pub written : now ≡ over (lastWritten (r .taken) x) out
+  pub count : r .count ≡ length (lastWritten (r .taken) x)
 
--- All that is written, w, where the input comes in these pieces: a turn for each, and at its end what `finish` writes.
-abbrev pub Written : Stream → List (List ℕ) → List ℕ → Type 0
-Written x [] w = (out : List ℕ) × (outputWidth ≤ length out) × (w ≡ lastWritten x out)
-Written x (piece ∷ pieces) w = (y : Stream) × (v : List ℕ) × (u : List ℕ) × Turn x piece y v × Written y pieces u × (w ≡ v ++ u)
-
-unfoldable pub joined : List (List ℕ) → List ℕ
-joined [] = []
-joined (piece ∷ pieces) = piece ++ joined pieces
+-- Turn after turn from the stream x on: the bytes that were taken in, the stream after them, and all that was answered.
+pub data Turns (x : Stream) : List ℕ → Stream → List ℕ → Type 0 where
+  none : Turns x [] x []
+  more : {input : List ℕ} {y : Stream} {w piece : List ℕ} {z : Stream} → Turns x input y w → Turn y piece z
+      → Turns x (input ++ piece) z (w ++ answersTo y piece)

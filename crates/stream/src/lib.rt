@@ -7,7 +7,7 @@ ghost use lib.ListN.{length, take};
 ghost use lib.Seq.{paste};
 ghost use Rattle.wire.specs.Format.{lineRead};
 ghost use Rattle.stream.specs.Session.{session, closed, outOfTurn, lineDecision, answered};
-ghost use Rattle.stream.specs.Input.{outputLine, begun, keptWidth, kept, outputWidth, over, lastWritten, Taken, FeedPromise};
+ghost use Rattle.stream.specs.Input.{outputLine, begun, keptWidth, kept, outputWidth, Taken, FeedPromise, FinishPromise};
 use calls::Answer;
 use calls::Numbers;
 use calls::Refusal;
@@ -49,6 +49,12 @@ pub struct Stream {
 pub struct Fed {
     pub taken: bool,
     pub stream: Stream,
+    pub count: usize,
+}
+
+// What became of the end of the input: whether out had room for the answer to a last line, and how many bytes were written.
+pub struct Finished {
+    pub taken: bool,
     pub count: usize,
 }
 
@@ -214,17 +220,25 @@ pub fn feed(x: Stream, piece: &[u8], out: &mut [u8]) -> Fed
     feed_all(x, piece, out)
 }
 
-// At the end of the input: writes the answer to a last line without its line feed into out, and tells how many bytes that is. Without
-// room for it nothing is written.
-pub fn finish(x: Stream, out: &mut [u8]) -> usize
-    ensures { λ r. ⌜ (now (out .exit) ≡ over (lastWritten x (now (out .entry))) (now (out .entry))) × (r ≡ length (lastWritten x (now (out .entry)))) ⌝ }
+// At the end of the input: writes the answer to a last line without its line feed into out. Without room for it nothing is written.
+pub fn finish(x: Stream, out: &mut [u8]) -> Finished
+    ensures { λ r. ⌜ FinishPromise x (now (out .entry)) r (now (out .exit)) ⌝ }
 {
     if x.count == 0 {
-        return 0;
+        return Finished {
+            taken: true,
+            count: 0,
+        };
     }
     if out.len() < OUTPUT_WIDTH {
-        return 0;
+        return Finished {
+            taken: false,
+            count: 0,
+        };
     }
     put_line(out, 0, calls::numbers_of(Answer::Refused(Refusal::BadLine)));
-    OUTPUT_WIDTH
+    Finished {
+        taken: true,
+        count: OUTPUT_WIDTH,
+    }
 }

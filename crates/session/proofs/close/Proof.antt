@@ -1,35 +1,59 @@
 -- `session::close` meets its contract.
 -- Assumes nothing.
-use mathlib.Core.Path.{sym}
-use Prim.Native.Nat.{_≤_}
-use lib.ListN.{length}
-use borrow.Author.Needs.{needs}
+use mathlib.Core.Path.{_≡_, sym}
+use mathlib.Core.List.{List}
+use Prim.Native.Nat.{ℕ, _≤_}
+use lib.ListN.{length, take}
 use lib.Seq.{length-take-le}
-use Rattle.stream.specs.Input.{lastWritten}
-use Rattle.stream.proofs.Bytes.{over-within}
+use borrow.Author.Needs.{needs}
+use Rattle.stream.specs.declared.Stream.{Stream}
+use Rattle.stream.specs.Input.{lastAnswer, begun, over}
+use Rattle.stream.proofs.Bytes.{over-within, over-first}
+use Rattle.stream.proofs.Pieces.{last-taken}
 use Rattle.session.proofs.close.Statement.{statement}
 use Rattle.session.proofs.close.Tie as tie
 
-within : (c : tie.After-finish) → c .finish .result ≤ length (c .finish .last .1 .0)
-within c =
-    let a = c .before .before .before .args in
-    over-within (lastWritten (a .x) (a .out .now)) (a .out .now) (c .finish .last .1 .0) (c .finish .result) (c .finish .ensures .0) (c .finish .ensures .1)
+module _ (c : tie.After-finish) where
+  abbrev x : Stream
+  x = c .before .before .before .args .x
 
-slice-reshare-prefix-write-all : tie.Need-slice-reshare-prefix-write-all
-slice-reshare-prefix-write-all c = within (c .before .before)
+  abbrev before : List ℕ
+  before = c .before .before .before .args .out .now
 
-slice-aggregate-write-all : tie.Need-slice-aggregate-write-all
-slice-aggregate-write-all c =
+  abbrev now : List ℕ
+  now = c .finish .last .1 .0
+
+  -- there is room: the last answer is written
+  taken : (now ≡ over (lastAnswer (begun x)) before) × (c .finish .result .count ≡ length (lastAnswer (begun x)))
+  taken = last-taken x before (c .finish .result) now (c .finish .ensures) (c .before .before .before .pre)
+
+  within : c .finish .result .count ≤ length now
+  within = over-within (lastAnswer (begun x)) before now (c .finish .result .count) (taken .0) (taken .1)
+
+  first : take (c .finish .result .count) now ≡ lastAnswer (begun x)
+  first = over-first (lastAnswer (begun x)) before now (c .finish .result .count) (taken .0) (taken .1)
+
+slice-reshare-prefix-write-last : tie.Need-slice-reshare-prefix-write-last
+slice-reshare-prefix-write-last c = within (c .before .before)
+
+slice-aggregate-write-last : tie.Need-slice-aggregate-write-last
+slice-aggregate-write-last c =
     let f = c .before .before .before in
-    sym (length-take-le (f .finish .result) (f .finish .last .1 .0) (within f))
+    sym (length-take-le (f .finish .result .count) (now f) (within f))
+
+write-last-requires : tie.Need-write-last-requires
+write-last-requires c κs = first (c .before .before .before)
+
+returns : tie.Need-returns
+returns c = first (c .before .before .before .before)
 
 pub close-spec : {M : Type 1} → statement M
 close-spec =
     tie.close
     (tie.spec
     (λ c κs. search needs)
-    slice-reshare-prefix-write-all
-    slice-aggregate-write-all
-    (λ c κs. search needs)
+    slice-reshare-prefix-write-last
+    slice-aggregate-write-last
+    write-last-requires
     (λ c. search needs)
-    (λ c. search needs))
+    returns)

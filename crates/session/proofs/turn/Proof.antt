@@ -1,24 +1,60 @@
 -- `session::turn` meets its contract.
 -- Assumes nothing.
-use mathlib.Core.Path.{sym}
-use Prim.Native.Nat.{_≤_}
-use lib.ListN.{length}
+use native.Mathlib.Omega.{arith}
+use mathlib.Core.List.{List}
+use Prim.Native.Nat.{ℕ, _*_, _≤_}
+use lib.ListN.{length, take, length-take}
 use borrow.Author.Needs.{needs}
-use lib.Seq.{length-take-le}
-use Rattle.stream.proofs.Lines.{counted-within}
+use Rattle.stream.specs.declared.Stream.{Stream}
+use Rattle.stream.specs.Input.{outputWidth, answersTo, Taken}
+use Rattle.stream.proofs.Bytes.{over-within, over-first}
+use Rattle.stream.proofs.Pieces.{fed-taken}
 use Rattle.session.proofs.turn.Statement.{statement}
 use Rattle.session.proofs.turn.Tie as tie
 
-within : (c : tie.After-feed) → c .feed .result .count ≤ length (c .feed .last .1 .1 .0)
-within c = counted-within _ _ _ _ _ (c .feed .ensures)
+module _ (c : tie.After-feed) where
+  abbrev counted : tie.After-count
+  counted = c .before .before .before
 
-slice-reshare-prefix-write-all : tie.Need-slice-reshare-prefix-write-all
-slice-reshare-prefix-write-all c = within (c .before .before .before)
+  abbrev read : tie.After-read
+  read = counted .before .before .before .before
 
-slice-aggregate-write-all : tie.Need-slice-aggregate-write-all
-slice-aggregate-write-all c =
-    let f = c .before .before .before .before in
-    sym (length-take-le (f .feed .result .count) (f .feed .last .1 .1 .0) (within f))
+  abbrev x : Stream
+  x = read .before .before .before .before .args .x
+
+  -- the bytes that were read
+  abbrev piece : List ℕ
+  piece = take (counted .count .result) (read .read .last .1 .0)
+
+  abbrev before : List ℕ
+  before = read .before .before .before .before .args .out .now
+
+  abbrev now : List ℕ
+  now = c .feed .last .1 .1 .0
+
+  -- there is room: the piece is taken
+  room : outputWidth * length piece ≤ length before
+  room = omega (arith, length-take (counted .count .result) (read .read .last .1 .0))
+
+  taken : Taken x piece before (c .feed .result) now
+  taken = fed-taken x piece before (c .feed .result) now (c .feed .ensures) room
+
+  within : c .feed .result .count ≤ length now
+  within = over-within (answersTo x piece) before now (c .feed .result .count) (taken .written) (taken .count)
+
+slice-reshare-prefix-write-answers-2 : tie.Need-slice-reshare-prefix-write-answers-2
+slice-reshare-prefix-write-answers-2 c = let h = within (c .before .before .before .before) in omega arith
+
+slice-aggregate-write-answers-2 : tie.Need-slice-aggregate-write-answers-2
+slice-aggregate-write-answers-2 c = let h = within (c .before .before .before .before .before) in simp length-take (omega arith)
+
+write-answers-requires : tie.Need-write-answers-requires
+write-answers-requires c κs =
+    let f = c .before .before .before .before .before in
+    over-first (answersTo (x f) (piece f)) (before f) (now f) (f .feed .result .count) (taken f .written) (taken f .count)
+
+returns : tie.Need-returns
+returns c = (search needs, taken (c .before .before .before .before .before .before) .turn)
 
 pub turn-spec : {M : Type 1} → statement M
 turn-spec =
@@ -28,15 +64,12 @@ turn-spec =
     (λ c κs. search needs)
     (λ c. search needs)
     (λ c. search needs)
-    (λ c. search needs)
-    (λ c. search needs)
-    (λ c κs. search needs)
-    slice-reshare-prefix-write-all
-    slice-aggregate-write-all
     (λ c κs. search needs)
     (λ c. search needs)
     (λ c. search needs)
+    slice-reshare-prefix-write-answers-2
+    slice-aggregate-write-answers-2
+    write-answers-requires
     (λ c. search needs)
     (λ c. search needs)
-    (λ c. search needs)
-    (λ c. search needs))
+    returns)

@@ -1,39 +1,49 @@
 -- `stream::finish` meets its contract.
 -- Assumes nothing.
-use Prim.Native.Nat.{_<_}
-use mathlib.Core.Path.{refl, sym, _∙_}
+use native.Mathlib.Omega.{arith}
+use mathlib.Core.Path.{_≡_, refl, sym, ap, _∙_}
 use lib.ListN.{length}
+use borrow.Author.Tests.{le-leb, lt-leb}
 use borrow.Author.Needs.{needs}
 use Rattle.calls.specs.Answers.{numbers}
-use Rattle.stream.proofs.Bytes.{output-long, output-first, none-begun, no-room, line-begun}
+use Rattle.stream.specs.Input.{outputLine, lastAnswer, begun, outputWidth}
+use Rattle.stream.proofs.Bytes.{output-long, output-first, none-begun, line-begun}
 use Rattle.stream.proofs.finish.Statement.{statement}
 use Rattle.stream.proofs.finish.Tie as tie
 
 returns : tie.Need-returns
 returns c =
-    let a = c .before .before .before .args in
-    let e = none-begun (a .x) (a .out .now) (c .if1 .taken) in
-    (rw e refl, rw e refl)
+    let x = c .before .before .before .args .x in
+    let e = none-begun (x .bytes) (x .count) (c .if1 .taken) in
+    record { taken = rw e (sym (le-leb 0 (length (c .before .before .before .args .out .now)) (omega arith))); written = rw e refl; count = rw e refl }
+
+-- a line has begun
+last : (c : tie.Start) → (c .args .x .count ≡ 0 → ⊥) → lastAnswer (begun (c .args .x)) ≡ outputLine (numbers 1 0 0 0)
+last c n = line-begun (c .args .x .bytes) (c .args .x .count) (search needs) n
+
+long : (c : tie.Start) → (c .args .x .count ≡ 0 → ⊥) → length (lastAnswer (begun (c .args .x))) ≡ outputWidth
+long c n = ap length (last c n) ∙ output-long (numbers 1 0 0 0)
 
 returns-2 : tie.Need-returns-2
 returns-2 c =
-    let a = c .before .before .before .before .args in
-    let e = no-room (a .x) (a .out .now) (c .if2 .taken) in
-    (rw e refl, rw e refl)
-
-long : (c : tie.Start) → 0 < length (c .args .x .bytes)
-long c = search needs
+    let start = c .before .before .before .before in
+    let n = long start (c .before .if1 .left) in
+    record { taken = sym (lt-leb (length (lastAnswer (begun (start .args .x)))) (length (start .args .out .now)) (omega arith)); written = refl; count = refl }
 
 returns-3 : tie.Need-returns-3
 returns-3 c =
     let p = c .before .before in
     let room = p .before .before .before in
     let start = room .before .before .before .before in
-    let a = start .args in
-    let e = line-begun (a .x) (a .out .now) (room .if2 .left) (room .before .if1 .left) (long start) in (
-      rw (e, ← p .before .numbers-of .ensures) (p .put-line .ensures ∙ output-first (a .out .now) (p .before .numbers-of .result)),
-      rw e (sym (output-long (numbers 1 0 0 0))),
-    )
+    let begins = room .before .if1 .left in
+    let n = long start begins in
+    record {
+      taken = sym (le-leb (length (lastAnswer (begun (start .args .x)))) (length (start .args .out .now)) (omega arith));
+      written =
+          rw (last start begins, ← p .before .numbers-of .ensures)
+          (p .put-line .ensures ∙ output-first (start .args .out .now) (p .before .numbers-of .result));
+      count = sym n;
+    }
 
 pub finish-spec : {M : Type 1} → statement M
 finish-spec = tie.close (tie.spec returns returns-2 (λ c κs. search needs) (λ c κs. search needs) (λ c. search needs) returns-3)
