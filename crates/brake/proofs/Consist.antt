@@ -1,11 +1,11 @@
 -- Laws of the brake figures.
 -- Assumes nothing.
-use Prim.Native.Nat.{ℕ, _*_, _^_, _≤_, _<_}
+use Prim.Native.Nat.{ℕ, _+_, _*_, _^_, _≤_, _<_}
 use mathlib.Core.Bool.{true, false}
 use mathlib.Core.Logic.{by-cases}
 use mathlib.Core.Path.{_≡_, refl, sym, _∙_, ap, subst}
 use native.Mathlib.Decide.{ℕ-discrete}
-use native.Mathlib.Nat.{mul-le-mul, le-div-iff-mul-le, div-le-self}
+use native.Mathlib.Nat.{mul-le-mul, mul-le-mul-left, le-div-iff-mul-le, div-lt-iff-lt-mul}
 use native.Mathlib.Omega.{arith}
 use lib.Dec.{T, leb, lit≤, lit<}
 use borrow.Author.Tests.{ne-eqb}
@@ -116,7 +116,11 @@ sound-with force mass l car h =
     let positive = cycles-positive l in
     record {
       growth-positive = le-div-iff-mul-le positive .1 (omega arith);
-      growth-within = div-le-self _ _;
+      -- whichever way it is rounded
+      growth-within =
+          let once = mul-le-mul-left (fullBrake force mass) positive in
+          let below : figuresWith force mass l .growth < fullBrake force mass + 1 = div-lt-iff-lt-mul positive .1 (omega arith) in
+          omega arith;
       full-within = car .full-most;
     }
 

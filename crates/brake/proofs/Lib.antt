@@ -1,1 +1,2 @@
 pub mod Consist
+pub mod Sentences

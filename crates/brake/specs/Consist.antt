@@ -48,11 +48,6 @@ figuresBy (Rated force mass) l = Given (figuresWith force mass l)
 unfoldable pub figuresOf : ℕ → ℕ → FiguresFound
 figuresOf load l = cond (lengthInRange l) (figuresBy (carOf load) l) NoFigures
 
--- its answer number, as far as load class and length decide it
-abbrev pub answerTo : FiguresFound → ℕ
-answerTo (Given k) = 0
-answerTo NoFigures = 4
-
 -- full brake of class 2, the highest of the three
 abbrev pub greatestFull : ℕ
 greatestFull = 162039

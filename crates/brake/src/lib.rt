@@ -23,7 +23,7 @@ pub enum FiguresFound {
     NoFigures,
 }
 
-// The load class alone decides force and mass. A car of unknown load is taken as loaded.
+// The load class alone decides force and mass. A car of unknown load has a force of its own, and the mass of a loaded car.
 fn car_of(load: u64) -> CarFound
     ensures { λ r. ⌜ r ≡ carOf load ⌝ }
 {

@@ -1,59 +1,48 @@
--- What document 01 and demand 2 say of the calls, in their words.
+-- What document 01 says of the calls, in its words: which are taken, exactly, and what each leaves. In numbers and in the fields of records.
 -- Assumes nothing.
-use Prim.Native.Nat.{ℕ, _+_}
-use mathlib.Core.Bool.{Bool, true, false}
-use mathlib.Core.Logic.{_⊎_, inl, inr, _↔_}
-use mathlib.Core.Option.{Option, none, some}
-use mathlib.Core.Path.{_≡_, refl, sym, ap, _∙_, subst}
+use Prim.Native.Nat.{ℕ, _*_, _≤_, _<_}
+use mathlib.Core.Bool.{true, false, _&&_}
+use mathlib.Core.Logic.{by-cases, _⊎_, inl, inr}
+use mathlib.Core.Option.{none, some}
+use mathlib.Core.Path.{_≡_, refl, ap, _∙_}
+use native.Mathlib.Decide.{decLe}
 use native.Mathlib.Omega.{arith}
-use lib.Dec.{leb, eqb}
-use borrow.Author.Tests.{le-ltb, eqb-false, not-false}
-use Rattle.logic.proofs.Tests.{by-test, not-both}
-use Rattle.brake.specs.declared.FiguresFound.the-variants.{Given}
-use Rattle.brake.specs.Consist.{Sound, figuresOf}
-use Rattle.motion.specs.declared.Motion.{Motion}
-use Rattle.motion.specs.declared.Order.{Order}
-use Rattle.motion.specs.declared.Order.the-variants.{Drive, Brake}
-use Rattle.motion.specs.Orders.{capFits, orderFor}
-use Rattle.motion.proofs.Greatest.{IsGreatest, Chosen, greatest-chosen, none-passes}
-use Rattle.motion.proofs.Orders.{MayOrder, fits-below, ordered-cap}
+use Rattle.logic.proofs.Tests.{by-test, both}
+use Rattle.ranges.specs.Ranges.{idInRange, startInRange}
+use Rattle.ranges.proofs.Sentences.{train-id, starting-number}
+use Rattle.brake.specs.declared.Figures.{Figures}
+use Rattle.brake.specs.declared.FiguresFound.{FiguresFound}
+use Rattle.brake.specs.declared.FiguresFound.the-variants.{Given, NoFigures}
+use Rattle.brake.proofs.Sentences.{PerCar, loaded, empty, unknown, Described, figures-exactly, no-figures-exactly}
+use Rattle.motion.specs.declared.Order.the-variants.{Brake}
 use Rattle.calls.specs.declared.Opening.{Opening}
 use Rattle.calls.specs.declared.Entry.{Entry}
-use Rattle.calls.specs.declared.Reading.{Reading}
-use Rattle.calls.specs.declared.Asked.{Asked}
 use Rattle.calls.specs.declared.Act.{Act}
-use Rattle.calls.specs.declared.Act.the-variants.{Report, Extend}
 use Rattle.calls.specs.declared.Call.{Call}
 use Rattle.calls.specs.declared.Call.the-variants.{Enter, Own, TakeOff}
 use Rattle.calls.specs.declared.Request.the-variants.{OnTable}
-use Rattle.calls.specs.declared.Refusal.{Refusal}
-use Rattle.calls.specs.declared.Refusal.the-variants.{NoTrain, NoTrack}
+use Rattle.calls.specs.declared.Refusal.the-variants.{BadSetting, BadEntry, OnLine, LineFull, BadHead, NoTrain, NotLeaving}
 use Rattle.calls.specs.declared.Answer.the-variants.{Accepted, Refused}
-use Rattle.calls.specs.declared.Values.the-variants.{Entered, Ordered, Extended, Zeros}
+use Rattle.calls.specs.declared.Values.the-variants.{Entered, Zeros}
 use Rattle.calls.specs.Answers.{numbers, numbersOf}
-use Rattle.calls.specs.Checks.{firstOf}
 use Rattle.calls.proofs.Answers.{accepted-0}
-use Rattle.calls.proofs.Checks.{passed}
-use Rattle.train.specs.declared.Authority.{Authority}
-use Rattle.train.specs.declared.Train.{Train}
-use Rattle.train.specs.Ranges.{requestInRange}
-use Rattle.train.specs.Record.{authorised}
-use Rattle.train.specs.Track.{withinLimit}
-use Rattle.train.specs.Report.{motionAfter, goalOf, orderAfter, reported, reportAllowed}
 use Rattle.train.specs.declared.Verdict.{Verdict}
-use Rattle.train.specs.Acts.{isRepeat, isOld, granted}
-use Rattle.train.specs.Decide.{Ruling, extending, decide, verdictBy, verdict}
-use Rattle.train.proofs.Verdicts.{report-refused, report-taken, extend-repeat, extend-beyond, extend-new}
-use Rattle.train.proofs.Records.{WorksWith, settings-given, figures-entered, computable-bounded, report-passed, held-brakes, free-order, may-order}
+use Rattle.train.specs.Ranges.{settingsInRange, settingsOf}
+use Rattle.train.specs.Record.{trainOf, figuresFor}
+use Rattle.train.specs.Track.{stepsOf}
+use Rattle.train.specs.Acts.{mayLeave}
+use Rattle.train.specs.Decide.{decide, verdict}
+use Rattle.train.proofs.Track.{InLimit, limit-beyond, limit-within}
+use Rattle.train.proofs.Records.{WorksWith, settings-given}
+use Rattle.train.proofs.Sentences.{Offers, settings-exactly, leaves-exactly}
 use Rattle.table.specs.declared.Table.{Table}
-use Rattle.table.specs.declared.Change.the-variants.{Stay, Put}
+use Rattle.table.specs.declared.Change.the-variants.{Stay, Add, DropFirst, Anew}
 use Rattle.table.specs.Table.{placeOf, trainAt, limitAt, changed}
-use Rattle.table.proofs.Places.{found-below, still-found, still-there, put-same}
+use Rattle.table.proofs.Places.{FoundAt}
 use Rattle.line.specs.declared.Decision.{Decision}
-use Rattle.line.specs.declared.Outcome.{Outcome}
-use Rattle.line.specs.Decide.{refused, rulingAt, decideOn}
+use Rattle.line.specs.Decide.{refused, accepted, openDecision, enterDecision, rulingAt, decideOn}
 use Rattle.line.specs.Step.{outcome, carriedOut, openStep, step}
-use Rattle.line.proofs.Steps.{any-call, open-made, own-unknown, placed, own-found}
+use Rattle.line.proofs.Steps.{any-call, open-taken, open-refused, open-made, enter-unfit, enter-fit, enter-bad, enter-known, enter-full, enter-short, enter-beyond, enter-taken, own-unknown, take-off-unknown, placed, own-found, take-off-refused, take-off-taken}
 
 -- ---- a refusal gives its number and zeros, and the whole table stays
 
@@ -79,199 +68,125 @@ refusal-keeps t c refuses =
     go d (inl e) refuses = absurd (refuses e)
     go d (inr (zeros, stays)) refuses = (zeros, ap (changed t) stays)
 
--- ---- an accepted opening makes a table with the numbers that were given, and no train
+-- ---- open
 
-pub opened-with : (o : Opening) (t : Table) → openStep o ≡ outcome (Accepted Zeros) t → WorksWith o (t .settings) × (t .count ≡ 0)
-opened-with o t opened = rw (open-made o t opened .1) (settings-given o, refl)
+-- 3 "a setting out of range"
+pub open-3 : (o : Opening) → (Offers o → ⊥) → openDecision o ≡ refused BadSetting
+open-3 o out = by-test (settingsInRange o) (λ e. absurd (out (settings-exactly o .0 e))) (λ e. open-refused o e)
 
--- ---- an entering train's figures are the definitions'
+-- "makes a new table with these settings and no train"
+pub open-accepted : (o : Opening) → Offers o → openDecision o ≡ accepted Zeros (Anew (settingsOf o))
+open-accepted o f = open-taken o (settings-exactly o .1 f)
 
-pub entering-figures : (t : Table) (e : Entry) (b j h : ℕ) → step t (Enter e) .answer ≡ Accepted (Entered b j h)
-    → (figuresOf (e .load) (e .length) ≡ Given (record { full = b; growth = j })) × (h ≡ e .head)
-unfolding step
-entering-figures t e b j h =
-    any-call t Shows
-    (record {
-      refuses = refuses;
-      enters = λ e k q passes p.
-          let full : k .full ≡ b = cc in
-          let growth : k .growth ≡ j = cc in
-          (sym (figures-entered (t .settings) e) ∙ q ∙ (λ z. Given (record { full = full z; growth = growth z })), cc);
-      acts = λ id i a q passes. tt;
-      leaves = λ id i q may. tt;
-    }) (Enter e)
-  where
-    Shows : Call → Decision → Type 0
-    Shows (Enter e) d = d .answer ≡ Accepted (Entered b j h) → (figuresOf (e .load) (e .length) ≡ Given (record { full = b; growth = j })) × (h ≡ e .head)
-    Shows (Own id a) d = Unit {0}
-    Shows (TakeOff id) d = Unit {0}
+pub opened-with : (o : Opening) (t : Table) → openStep o ≡ outcome (Accepted Zeros) t → Offers o × WorksWith o (t .settings) × (t .count ≡ 0)
+opened-with o t opened = let made = open-made o t opened in rw (made .1) (settings-exactly o .0 (made .0), settings-given o, refl)
 
-    refuses : (c : Call) (r : Refusal) → Shows c (refused r)
-    refuses (Enter e) r = λ p. let z : _≡_ {A = ℕ} 0 1 = cc in absurd (omega arith)
-    refuses (Own id a) r = tt
-    refuses (TakeOff id) r = tt
+-- ---- enter
 
--- ---- the train x, found at place i
+-- "train id 1 to 65,535; length 1 to 10,000 ft; starting number may be 0"; load classes 1, 2, 3
+pub record Enters (e : Entry) : Type 0 where
+  pub id : (1 ≤ e .id) × (e .id ≤ 65535)
+  pub length : (1 ≤ e .length) × (e .length ≤ 10000)
+  pub load : (1 ≤ e .load) × (e .load ≤ 3)
+  pub start : e .start ≤ 4294967295
 
-module _ (t : Table) (id i : ℕ) (x : Train) (found : placeOf t id ≡ some i) (here : x ≡ trainAt t i) where
-  -- an act of it is answered by its verdict
-  abbrev verdictOn : Act → Verdict
-  verdictOn a = verdict (decide (t .settings) (limitAt t i) x a)
+class-listed : {load force mass : ℕ} → PerCar load force mass → (1 ≤ load) × (load ≤ 3)
+class-listed loaded = (omega arith, omega arith)
+class-listed empty = (omega arith, omega arith)
+class-listed unknown = (omega arith, omega arith)
 
-  own-step : (a : Act) (v : Verdict) → verdictOn a ≡ v → step t (Own id a) ≡ carriedOut t (placed i v)
+module _ (t : Table) (e : Entry) where
+  entered : (d : Decision) → decideOn t (OnTable (Enter e)) ≡ d → step t (Enter e) ≡ carriedOut t d
   unfolding step
-  own-step a v e = ap (carriedOut t) (own-found t id i (limitAt t i) x (record { place = found; limited = refl; here = here }) a) ∙ ap (λ (w : Verdict). carriedOut t (placed i w)) e
+  entered d q = ap (carriedOut t) q
 
-  own-answer : (a : Act) (v : Verdict) → verdictOn a ≡ v → step t (Own id a) .answer ≡ placed i v .answer
-  own-answer a v e = ap (λ (o : Outcome). o .answer) (own-step a v e)
-
-  -- a new, well-formed extension is refused exactly when the new end is beyond the limit
-  pub track-refused : (q : Asked) → requestInRange (t .settings) q ≡ true → isOld (x .authority) q ≡ false → (q .number ≡ x .authority .number → ⊥)
-      → (step t (Own id (Extend q)) .answer ≡ Refused NoTrack) ↔ (withinLimit (limitAt t i) (x .authority .end + q .length) ≡ false)
-  track-refused q ranged fresh new = (only, λ beyond. own-answer (Extend q) _ (extend-beyond (t .settings) x (limitAt t i) q ranged fresh new beyond))
+  -- 4 "id, length, load class or starting number out of range"
+  pub enter-4 : (Enters e → ⊥) → step t (Enter e) ≡ outcome (Refused BadEntry) t
+  enter-4 out = go (figuresFor (t .settings) e) refl
     where
-      only : step t (Own id (Extend q)) .answer ≡ Refused NoTrack → withinLimit (limitAt t i) (x .authority .end + q .length) ≡ false
-      only e =
-          by-test (withinLimit (limitAt t i) (x .authority .end + q .length))
-          (λ within.
-          let taken = own-answer (Extend q) _ (extend-new (t .settings) x (limitAt t i) q ranged fresh new within) in
-          let z : _≡_ {A = ℕ} 0 1 = cc in absurd (omega arith))
-          (λ beyond. beyond)
+      go : (f : FiguresFound) → figuresFor (t .settings) e ≡ f → step t (Enter e) ≡ outcome (Refused BadEntry) t
+      go NoFigures f = entered _ (enter-unfit t e f)
+      go (Given k) f =
+          by-test (idInRange (e .id) && startInRange (e .start))
+          (λ ranged.
+          let tests = both (idInRange (e .id)) (startInRange (e .start)) ranged in
+          let d = figures-exactly (e .load) (e .length) k .0 f in
+          absurd (out (record { id = train-id (e .id) .0 (tests .0); length = (d .shortest, d .longest); load = class-listed (d .per-car); start = starting-number (e .start) .0 (tests .1) .1 })))
+          (λ bad. entered _ (enter-fit t e k f ∙ enter-bad t e k bad))
 
-  -- ---- a report
+  module _ (r : Enters e) where
+    ranged : (idInRange (e .id) && startInRange (e .start)) ≡ true
+    ranged = rw (train-id (e .id) .1 (r .id), starting-number (e .start) .1 (omega arith, r .start))
 
-  module _ (r : Reading) (o : Order) (n : ℕ) (answered : step t (Own id (Report r)) .answer ≡ Accepted (Ordered o n)) where
-    -- the motion that was reported, and whether a cap fits it
-    abbrev after : Motion
-    after = motionAfter x r
-
-    abbrev fits : ℕ → Bool
-    fits = capFits (x .figures) (t .settings .limits) (goalOf x) after
-
-    allows : reportAllowed (t .settings) x r ≡ true
-    allows =
-        by-test (reportAllowed (t .settings) x r)
-        (λ e. e)
-        (λ e.
-        let no-order = own-answer (Report r) _ (report-refused (t .settings) x r e) in
-        let z : _≡_ {A = ℕ} 0 1 = cc in absurd (omega arith))
-
-    ordered : o ≡ orderAfter (t .settings) x after
-    unfolding reported
-    ordered =
-        let taken = own-answer (Report r) _ (report-taken (t .settings) x r allows) in
-        let e : Accepted (Ordered o n) ≡ Accepted (Ordered (orderAfter (t .settings) x after) _) = sym answered ∙ taken in
-        cc
-
-    sound : Sound (x .figures)
-    sound = computable-bounded x (report-passed (t .settings) x r allows .computes) .figures
-
-    none-fits : fits 0 ≡ false → orderFor (x .figures) (t .settings .limits) (goalOf x) after ≡ Brake
-    unfolding orderFor
-    none-fits e = none-passes fits (λ c d le q. fits-below _ _ _ _ c d sound le q) (t .settings .limits .traction) e
-
-    -- brake is ordered exactly when the train is held or not even cap 0 fits
-    pub brake-exactly : (o ≡ Brake) ↔ ((x .marks .held ≡ true) ⊎ (fits 0 ≡ false))
-    unfolding orderFor
-    brake-exactly = (only, exactly)
+    -- whatever its figures, and it has some
+    decided : (d : Decision) → ((k : Figures) → enterDecision t e (Given k) ≡ d) → step t (Enter e) ≡ carriedOut t d
+    decided d q = go (figuresFor (t .settings) e) refl
       where
-        only : o ≡ Brake → (x .marks .held ≡ true) ⊎ (fits 0 ≡ false)
-        only e =
-            by-test (x .marks .held)
-            (λ held. inl held)
-            (λ free.
-            let rule : orderFor (x .figures) (t .settings .limits) (goalOf x) after ≡ Brake = sym (free-order (t .settings) x after free) ∙ sym ordered ∙ e in
-            let chosen : Chosen fits (t .settings .limits .traction) Brake =
-            subst (Chosen fits (t .settings .limits .traction)) rule (greatest-chosen fits (t .settings .limits .traction)) in
-            inr (chosen 0 (omega arith)))
+        go : (f : FiguresFound) → figuresFor (t .settings) e ≡ f → step t (Enter e) ≡ carriedOut t d
+        go NoFigures f = absurd (no-figures-exactly (e .load) (e .length) .0 f (r .length .0, r .length .1, r .load .0, r .load .1))
+        go (Given k) f = entered d (enter-fit t e k f ∙ q k)
 
-        exactly : (x .marks .held ≡ true) ⊎ (fits 0 ≡ false) → o ≡ Brake
-        exactly (inl held) = ordered ∙ held-brakes (t .settings) x after held
-        exactly (inr e) =
-            by-test (x .marks .held)
-            (λ held. ordered ∙ held-brakes (t .settings) x after held)
-            (λ free. ordered ∙ free-order (t .settings) x after free ∙ none-fits e)
+    -- 5 "id on the line already"
+    pub enter-5 : (i : ℕ) → placeOf t (e .id) ≡ some i → step t (Enter e) ≡ outcome (Refused OnLine) t
+    enter-5 i known = decided _ (λ k. enter-known t e k ranged i known)
 
-    -- the cap offered fits, and no greater one up to A does
-    pub cap-greatest : (c : ℕ) → o ≡ Drive c → IsGreatest fits (t .settings .limits .traction) c
-    cap-greatest c e =
-        ordered-cap (x .figures) (t .settings .limits) (goalOf x) after c
-        (subst (MayOrder (x .figures) (t .settings .limits) (goalOf x) after) (sym ordered ∙ e) (may-order (t .settings) x after))
+    module _ (absent : placeOf t (e .id) ≡ none) where
+      -- 6 "32 trains on the line"
+      pub enter-6 : 32 ≤ t .count → step t (Enter e) ≡ outcome (Refused LineFull) t
+      enter-6 full = decided _ (λ k. enter-full t e k ranged absent full)
 
--- ---- a repeat of an accepted extension leaves the table and adds nothing
+      module _ (free : t .count < 32) where
+        -- 7 "entering head not in its range": "the head must be at least the length and at most the limit"
+        pub enter-7 : (e .head < 6096000 * e .length) ⊎ (InLimit (limitAt t (t .count)) (e .head) → ⊥) → step t (Enter e) ≡ outcome (Refused BadHead) t
+        unfolding stepsOf
+        enter-7 (inl short) = decided _ (λ k. enter-short t e k ranged absent free short)
+        enter-7 (inr far) =
+            by-cases (decLe (6096000 * e .length) (e .head))
+            (λ long. decided _ (λ k. enter-beyond t e k ranged absent free long (limit-beyond (limitAt t (t .count)) (e .head) far)))
+            (λ short. decided _ (λ k. enter-short t e k ranged absent free (omega arith)))
 
--- what an accepted new extension has passed
-record New (t : Table) (i : ℕ) (a : Authority) (q : Asked) : Type 0 where
-  pub ranged : requestInRange (t .settings) q ≡ true
-  pub fresh : isOld a q ≡ false
-  pub new : q .number ≡ a .number → ⊥
-  pub within : withinLimit (limitAt t i) (a .end + q .length) ≡ true
+        -- "behind the last train, standing; end = head, order brake, level B, not held, and a starting request number for this stay"
+        pub enter-accepted : (k : Figures) → Described (e .load) (e .length) k → 6096000 * e .length ≤ e .head → InLimit (limitAt t (t .count)) (e .head)
+            → let x =
+            trainOf (e .id) (e .length) k (record { head = e .head; speed = 0; level = k .full }) Brake
+            (record { end = e .head; start = e .start; number = e .start; asked = 0 }) (record { held = false }) in
+            step t (Enter e) ≡ outcome (Accepted (Entered (k .full) (k .growth) (e .head))) (changed t (Add x))
+        unfolding stepsOf
+        enter-accepted k d long near =
+            entered _
+            (enter-fit t e k (figures-exactly (e .load) (e .length) k .1 d)
+            ∙ enter-taken t e k ranged absent free long (limit-within (limitAt t (t .count)) (e .head) near))
 
-module _ (t : Table) (id i : ℕ) (x : Train) (found : placeOf t id ≡ some i) (here : x ≡ trainAt t i) (q : Asked) (e : ℕ) where
-  abbrev call : Call
-  call = Own id (Extend q)
+-- ---- a call that names a train
 
-  abbrev mine : Authority
-  mine = x .authority
+-- 8 "no such train"
+pub own-8 : (t : Table) (id : ℕ) (a : Act) → placeOf t id ≡ none → step t (Own id a) ≡ outcome (Refused NoTrain) t
+unfolding step
+own-8 t id a none-found = ap (carriedOut t) (own-unknown t id a none-found)
 
-  abbrev ruled : Ruling
-  ruled = extending (t .settings) (limitAt t i) x q
+pub take-off-8 : (t : Table) (id : ℕ) → placeOf t id ≡ none → step t (TakeOff id) ≡ outcome (Refused NoTrain) t
+unfolding step
+take-off-8 t id none-found = ap (carriedOut t) (take-off-unknown t id none-found)
 
-  new-passed : step t call .answer ≡ Accepted (Extended e false) → New t i mine q
-  unfolding isRepeat
-  new-passed p = go (firstOf (ruled .checks)) refl
-    where
-      go : (o : Option Refusal) → firstOf (ruled .checks) ≡ o → New t i mine q
-      go none f =
-          let answer = own-answer t id i x found here (Extend q) _ (ap (λ (o : Option Refusal). verdictBy o ruled) f) in
-          let new : eqb (q .number) (mine .number) ≡ false = cc in
-          let range = passed _ _ _ f in
-          let old = passed _ _ _ (range .1) in
-          let last = passed _ _ _ (passed _ _ _ (old .1) .1) in
-          record { ranged = not-false _ (range .0); fresh = old .0; new = eqb-false _ _ new; within = not-false _ (rw new at (last .0)) }
-      go (some r) f =
-          let answer = own-answer t id i x found here (Extend q) _ (ap (λ (o : Option Refusal). verdictBy o ruled) f) in
-          let z : _≡_ {A = ℕ} 0 1 = cc in absurd (omega arith)
+module _ (t : Table) (id i : ℕ) (found : placeOf t id ≡ some i) where
+  at-place : FoundAt t (placeOf t id) i (limitAt t i) (trainAt t i)
+  at-place = record { place = found; limited = refl; here = refl }
 
-  abbrev longer : Train
-  longer = authorised x (granted mine q)
+  -- an act is answered by its verdict on the record at that place
+  pub own-step : (a : Act) (v : Verdict) → verdict (decide (t .settings) (limitAt t i) (trainAt t i) a) ≡ v → step t (Own id a) ≡ carriedOut t (placed i v)
+  unfolding step
+  own-step a v e = ap (carriedOut t) (own-found t id i _ _ at-place a) ∙ ap (λ (w : Verdict). carriedOut t (placed i w)) e
 
-  abbrev left : Table
-  left = changed t (Put i longer)
+  -- 15 "train not first, or not standing under brake"
+  pub take-off-15 : ((i ≡ 0) × (trainAt t i .motion .speed ≡ 0) × (trainAt t i .order ≡ Brake) → ⊥) → step t (TakeOff id) ≡ outcome (Refused NotLeaving) t
+  unfolding step
+  take-off-15 not-so =
+      by-test (mayLeave i (trainAt t i))
+      (λ e. absurd (not-so (leaves-exactly i (trainAt t i) .0 e)))
+      (λ e. ap (carriedOut t) (take-off-refused t id i _ _ at-place e))
 
-  found-again : placeOf left id ≡ some i
-  found-again = still-found t i longer (found-below t id i found) (ap (λ (u : Train). u .id) here) id ∙ found
-
-  still-fresh : isOld mine q ≡ false → isOld (granted mine q) q ≡ false
-  unfolding isOld
-  still-fresh fresh =
-      by-test (leb (q .number) (mine .start))
-      (λ old. absurd (not-both refl (rw old at fresh)))
-      (λ above. rw (above, le-ltb (q .number) (q .number) (omega arith)))
-
-  again : New t i mine q
-      → (step left call ≡ outcome (Accepted (Extended (mine .end + q .length) true)) left)
-      × (step t call ≡ outcome (Accepted (Extended (mine .end + q .length) false)) left)
-  again p =
-      let there = sym (still-there t id i longer found) in (
-        own-step left id i longer found-again there (Extend q) _ (extend-repeat (left .settings) longer (limitAt left i) q (p .ranged) (still-fresh (p .fresh)) refl refl)
-            ∙ ap (outcome (Accepted (Extended (mine .end + q .length) true))) (put-same left i longer there),
-        own-step t id i x found here (Extend q) _ (extend-new (t .settings) x (limitAt t i) q (p .ranged) (p .fresh) (p .new) (p .within)),
-      )
-
-pub repeat-adds-none : (t : Table) (id : ℕ) (q : Asked) (e : ℕ) → step t (Own id (Extend q)) .answer ≡ Accepted (Extended e false)
-    → step (step t (Own id (Extend q)) .table) (Own id (Extend q)) ≡ outcome (Accepted (Extended e true)) (step t (Own id (Extend q)) .table)
-repeat-adds-none t id q e p = go (placeOf t id) refl
-  where
-    go : (f : Option ℕ) → placeOf t id ≡ f
-        → step (step t (Own id (Extend q)) .table) (Own id (Extend q)) ≡ outcome (Accepted (Extended e true)) (step t (Own id (Extend q)) .table)
-    go none f =
-        let unknown : step t (Own id (Extend q)) .answer ≡ Refused NoTrain = unfold step in ap (λ (d : Decision). d .answer) (own-unknown t id (Extend q) f) in
-        let z : _≡_ {A = ℕ} 0 1 = cc in absurd (omega arith)
-    go (some i) f =
-        let x = trainAt t i in
-        let both-times = again t id i x f refl q e (new-passed t id i x f refl q e p) in
-        let first = both-times .1 in
-        let end : Accepted (Extended e false) ≡ Accepted (Extended (x .authority .end + q .length) false) = sym p ∙ ap (λ (o : Outcome). o .answer) first in
-        let same : x .authority .end + q .length ≡ e = cc in
-        rw (first, ← same) (both-times .0)
+  -- "the first train, standing under brake"
+  pub take-off-accepted : i ≡ 0 → trainAt t i .motion .speed ≡ 0 → trainAt t i .order ≡ Brake → step t (TakeOff id) ≡ outcome (Accepted Zeros) (changed t DropFirst)
+  unfolding step
+  take-off-accepted first standing braked =
+      ap (carriedOut t) (take-off-taken t id i _ _ at-place (leaves-exactly i (trainAt t i) .1 (first, standing, braked)))

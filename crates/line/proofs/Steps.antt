@@ -83,13 +83,17 @@ any-call t P any (TakeOff id) =
     judged-any (firstOf (check (not (mayLeave i (trainAt t i))) NotLeaving ∷ [])) _ _ (P (TakeOff id)) (any .refuses _)
     (λ e. any .leaves id i q (not-false _ (passed _ NotLeaving [] e .0))))
 
+-- an accepted entering found a free place
+pub enter-room : (t : Table) (e : Entry) → firstOf (enterChecks t e) ≡ none → t .count < places
+enter-room t e passes = leb-false places (t .count) (passed _ _ _ (passed _ _ _ (passed _ _ _ passes .1) .1) .0)
+
 -- the table has the place that the change needs
 pub decided-fits : (t : Table) → length (t .trains) ≡ places → (c : Call) → Fits t (decideOn t (OnTable c) .change)
 decided-fits t size =
     any-call t (λ c d. Fits t (d .change))
     (record {
       refuses = λ c r. tt;
-      enters = λ e k q passes. leb-false places (t .count) (passed _ _ _ (passed _ _ _ (passed _ _ _ passes .1) .1) .0);
+      enters = λ e k q passes. enter-room t e passes;
       acts = λ id i a q passes. let among = found-among t id i q in let all = length-take (t .count) (t .trains) in omega arith;
       leaves = λ id i q may. let below = found-below t id i q in omega arith;
     })

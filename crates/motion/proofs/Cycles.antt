@@ -10,20 +10,20 @@ use native.Mathlib.Omega.{arith}
 use lib.Dec.{leb}
 use borrow.Author.Tests.{le-leb, lt-leb, eqb-true, eq-eqb, ne-eqb}
 use Rattle.brake.specs.declared.Figures.{Figures}
+use Rattle.brake.proofs.Sentences.{rounded-once}
 use Rattle.logic.specs.Rounding.{ceilDiv}
 use Rattle.logic.proofs.Rounding.{ceil-le, ceil-mono}
 use Rattle.logic.proofs.Tests.{by-test, not-both}
 use Rattle.motion.specs.Motion.{brakeTravel, brakeSpeed, nextLevel, driveTravel, driveSpeed, stands}
+use Rattle.motion.proofs.Sentences.{braked-on, braked-last}
 
 -- ---- a braked cycle
 
 pub travel-on : (k : Figures) (v b : ℕ) → b ≤ v → brakeTravel k v b ≡ 2 * v - b
-unfolding brakeTravel
-travel-on k v b h = rw (le-leb b v h, brakeTravel)
+travel-on k v b h = let on = braked-on k v b h .0 in omega arith
 
 pub travel-last : (k : Figures) (v b : ℕ) → v < b → brakeTravel k v b ≡ ceilDiv (v * v) b
-unfolding brakeTravel
-travel-last k v b h = rw (lt-leb b v h, brakeTravel)
+travel-last k v b h = sym (rounded-once _ _ _ (omega arith) (braked-last k v b h .0))
 
 travel-last-le : (k : Figures) (v b : ℕ) → v < b → brakeTravel k v b ≤ v
 travel-last-le k v b h = rw (travel-last k v b h) (ceil-le v (omega arith) (mul-le-mul-left v (omega arith)))

@@ -9,9 +9,9 @@ use Rattle.brake.specs.Consist.{Sound}
 use Rattle.motion.specs.declared.Motion.{Motion}
 use Rattle.motion.specs.declared.Order.{Order}
 use Rattle.motion.specs.declared.Order.the-variants.{Drive, Brake}
-use Rattle.motion.specs.Motion.{brakeTravel, brakeSpeed, nextLevel, stands, stoppingDistance}
+use Rattle.motion.specs.Motion.{stands, stoppingDistance}
 use Rattle.motion.specs.Orders.{worstCase, stoppingPlace, reach}
-use Rattle.motion.proofs.Cycles.{travel-mono, speed-mono, drive-travel-mono, drive-speed-mono}
+use Rattle.motion.proofs.Cycles.{drive-travel-mono, drive-speed-mono}
 use Rattle.motion.proofs.Runs.{stop-stands, stop-cycle, stop-mono}
 
 pub record NoWorse (m m′ : Motion) : Type 0 where
@@ -19,16 +19,7 @@ pub record NoWorse (m m′ : Motion) : Type 0 where
   pub speed : m .speed ≤ m′ .speed
   pub level : m .level ≡ m′ .level
 
--- it lasts, cycle by cycle, while both brake
-pub no-worse-brake : (k : Figures) (m m′ : Motion) → NoWorse m m′ → NoWorse (worstCase k m Brake) (worstCase k m′ Brake)
-no-worse-brake k m m′ h =
-    let travel = travel-mono k (m .level) (h .speed) in
-    let speed = speed-mono k (m .level) (h .speed) in
-    let same = ap (brakeTravel k (m′ .speed)) (h .level) in
-    let same′ = ap (brakeSpeed k (m′ .speed)) (h .level) in
-    record { head = omega arith; speed = omega arith; level = ap (nextLevel k) (h .level) }
-
--- and where one drives with a smaller cap
+-- it lasts where one drives with a smaller cap
 pub no-worse-drive : (k : Figures) (m m′ : Motion) {c c′ : ℕ} → NoWorse m m′ → c ≤ c′ → NoWorse (worstCase k m (Drive c)) (worstCase k m′ (Drive c′))
 no-worse-drive k m m′ h g =
     let travel = drive-travel-mono k (h .speed) g in

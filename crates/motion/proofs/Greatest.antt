@@ -62,6 +62,9 @@ module _ (passes : ℕ → Bool) where
       (λ t. top (suc n) t)
       (λ f. subst (Chosen passes (suc n)) (sym (greatest-below n f)) (up n (greatest passes n) f (greatest-chosen n)))
 
+  pub greatest-is : (n : ℕ) (o : Order) → greatest passes n ≡ o → Chosen passes n o
+  greatest-is n o e = subst (Chosen passes n) e (greatest-chosen n)
+
   chosen-once : (n : ℕ) (o o′ : Order) → Chosen passes n o → Chosen passes n o′ → o ≡ o′
   chosen-once n (Drive c) (Drive d) g h =
       by-cases (decLt c d)

@@ -1,5 +1,7 @@
+pub mod Sentences
 pub mod Cycles
 pub mod Runs
+pub mod OrderSentences
 pub mod Bounds
 pub mod Domination
 pub mod Greatest

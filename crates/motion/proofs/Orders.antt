@@ -3,26 +3,26 @@
 use Prim.Native.Nat.{ℕ, _+_, _≤_, _<_}
 use mathlib.Core.Bool.{true, false}
 use mathlib.Core.Logic.{_⊎_, inl, inr}
-use mathlib.Core.Path.{_≡_, refl, sym, _∙_, subst}
+use mathlib.Core.Path.{_≡_, refl, sym}
 use native.Mathlib.Nat.{le-trans, le-refl}
 use native.Mathlib.Omega.{arith}
 use lib.Dec.{leb}
-use borrow.Author.Tests.{le-leb, lt-leb, leb-true}
+use borrow.Author.Tests.{le-leb, leb-true}
 use Rattle.brake.specs.declared.Figures.{Figures}
 use Rattle.brake.specs.Consist.{Sound}
-use Rattle.logic.proofs.Tests.{both}
 use Rattle.motion.specs.declared.Motion.{Motion}
 use Rattle.motion.specs.declared.Limits.{Limits}
 use Rattle.motion.specs.declared.Order.{Order}
 use Rattle.motion.specs.declared.Order.the-variants.{Drive, Brake}
-use Rattle.motion.specs.Motion.{driveSpeed, releasedLevel}
-use Rattle.motion.specs.Orders.{orderCap, worstCase, reach, capFits, keepsGoal, CapsAllowed, greatest, orderFor}
+use Rattle.motion.specs.Motion.{driveTravel, driveSpeed, releasedLevel}
+use Rattle.motion.specs.Orders.{orderCap, worstCase, stoppingPlace, reach, capFits, keepsGoal, CapsAllowed, greatest, orderFor}
 use Rattle.ranges.specs.Ranges.{greatestLineEnd, greatestCeiling, greatestTraction}
 use Rattle.motion.specs.Bounds.{Bounded}
-use Rattle.motion.proofs.Cycles.{level-le, drive-speed-mono}
+use Rattle.motion.proofs.Cycles.{level-le}
+use Rattle.motion.proofs.OrderSentences.{too-fast, fits, fails}
 use Rattle.motion.proofs.Bounds.{speedBound, bound-ceiling, bound-brake, bound-fits}
 use Rattle.motion.proofs.Domination.{NoWorse, no-worse-drive, no-worse-stop, brake-keeps}
-use Rattle.motion.proofs.Greatest.{IsGreatest, Chosen, greatest-chosen, greatest-only, greatest-agree}
+use Rattle.motion.proofs.Greatest.{IsGreatest, greatest-is, greatest-only, greatest-agree}
 
 -- ---- the cap that fits
 
@@ -38,24 +38,16 @@ goal-below k goal m c d s h e = le-leb _ _ (le-trans (reach-mono k m c d s h) (l
 
 module _ (k : Figures) (l : Limits) (goal : ℕ) (m : Motion) where
   pub fits-keeps : (c : ℕ) → capFits k l goal m c ≡ true → (driveSpeed k (m .speed) c ≤ l .ceiling) × (reach k m (Drive c) ≤ goal)
-  unfolding capFits
-  fits-keeps c e =
-      let passed = both (leb (driveSpeed k (m .speed) c) (l .ceiling)) (leb (reach k m (Drive c)) goal) e in
-      (leb-true _ _ (passed .0), leb-true _ _ (passed .1))
+  unfolding stoppingPlace driveTravel driveSpeed
+  fits-keeps c e = let f = fits k l goal m c e in (f .ceiling, f .stops)
 
   pub fits-over : (c : ℕ) → l .ceiling < driveSpeed k (m .speed) c → capFits k l goal m c ≡ false
-  unfolding capFits
-  fits-over c h = rw (lt-leb (driveSpeed k (m .speed) c) (l .ceiling) h)
+  unfolding driveSpeed
+  fits-over c h = fails k l goal m c (too-fast h)
 
   pub fits-under : (c : ℕ) → driveSpeed k (m .speed) c ≤ l .ceiling → capFits k l goal m c ≡ leb (reach k m (Drive c)) goal
   unfolding capFits
   fits-under c h = rw (le-leb (driveSpeed k (m .speed) c) (l .ceiling) h)
-
-  -- below a cap that fits every cap fits
-  pub fits-below : (c d : ℕ) → Sound k → c ≤ d → capFits k l goal m d ≡ true → capFits k l goal m c ≡ true
-  fits-below c d s h e =
-      let kept = fits-keeps d e in
-      fits-under c (le-trans (drive-speed-mono k (le-refl _) h) (kept .0)) ∙ le-leb _ _ (le-trans (reach-mono k m c d s h) (kept .1))
 
   -- no cap is allowed: brake
   pub none-allowed : CapsAllowed k l (m .speed) 0 → orderFor k l goal m ≡ Brake
@@ -81,7 +73,7 @@ MayOrder k l goal m o = (o ≡ Brake) ⊎ (o ≡ orderFor k l goal m)
 pub ordered-cap : (k : Figures) (l : Limits) (goal : ℕ) (m : Motion) (c : ℕ) → MayOrder k l goal m (Drive c) → IsGreatest (capFits k l goal m) (l .traction) c
 unfolding orderFor
 ordered-cap k l goal m c (inl e) = let z : _≡_ {A = ℕ} 0 1 = cc in absurd (omega arith)
-ordered-cap k l goal m c (inr e) = subst (Chosen (capFits k l goal m) (l .traction)) (sym e) (greatest-chosen (capFits k l goal m) (l .traction))
+ordered-cap k l goal m c (inr e) = greatest-is (capFits k l goal m) (l .traction) (Drive c) (sym e)
 
 -- no worse than the worst case of the last order, whose reach kept the end: the new order keeps it too
 pub order-keeps : (k : Figures) (l : Limits) (m : Motion) (o : Order) (m′ : Motion) (o′ : Order) (goal end : ℕ) → Sound k

@@ -22,8 +22,9 @@ inBounds k m c =
 
 -- ---- words of inner contracts
 
--- What the code may take for granted. Nobody outside passes figures, levels or speeds, and every report keeps these bounds (proofs/Orders:
--- within-report, within-bounded).
+-- What the code may take for granted. A report brings its speed from outside. It is used only where the record passes `inBounds`, the report is
+-- within the worst case of the last order, and the motion after it passes `inBounds` too (train/specs/Report: computable, allowed,
+-- reportAllowed). A report within that worst case keeps these bounds (proofs/Orders: within-report, within-bounded).
 
 -- a level that the brake can have
 pub record Level (k : Figures) (b : ℕ) : Type 0 where

@@ -1,4 +1,5 @@
--- Document 01's starred values: what the definitions give beside what the paper prints (proofs/Starred: starred).
+-- Document 01's starred values: what the definitions give beside what the paper prints (proofs/Starred: starred). Then values that the
+-- paper does not print, beside what another program works out from its formulas (proofs/Starred: worked).
 use Prim.Native.Nat.{ℕ, _+_}
 use mathlib.Core.Bool.{Bool, true, _&&_}
 use mathlib.Core.List.{List, [], _∷_}
@@ -6,11 +7,13 @@ use lib.Dec.{eqb}
 use Rattle.brake.specs.declared.Figures.{Figures}
 use Rattle.brake.specs.declared.FiguresFound.{FiguresFound}
 use Rattle.brake.specs.declared.FiguresFound.the-variants.{Given, NoFigures}
-use Rattle.brake.specs.Consist.{applicationCycles, figuresOf, answerTo}
+use Rattle.brake.specs.Consist.{applicationCycles, figuresOf}
 use Rattle.motion.specs.declared.Motion.{Motion}
 use Rattle.motion.specs.declared.Limits.{Limits}
+use Rattle.motion.specs.declared.Order.{Order}
+use Rattle.motion.specs.declared.Order.the-variants.{Drive, Brake}
 use Rattle.motion.specs.Motion.{stoppingDistance}
-use Rattle.motion.specs.Orders.{orderNumber, orderCap, orderFor}
+use Rattle.motion.specs.Orders.{orderNumber, orderCap, worstCase, reach, orderFor}
 use Rattle.motion.specs.Count.{cyclesToStand}
 
 pub record Row : Type 0 where
@@ -24,10 +27,19 @@ abbrev pub agree : List Row → Bool
 agree [] = true
 agree (r ∷ rs) = eqb (r .defined) (r .printed) && agree rs
 
--- full brake of a load class
+-- full brake and growth that a consist is given
 abbrev pub fullGiven : FiguresFound → ℕ
 fullGiven (Given k) = k .full
 fullGiven NoFigures = 0
+
+abbrev pub growthGiven : FiguresFound → ℕ
+growthGiven (Given k) = k .growth
+growthGiven NoFigures = 0
+
+-- 1 where it is given figures, 0 where there are none: answer 4 (line/specs/Decide: enterDecision)
+abbrev pub isGiven : FiguresFound → ℕ
+isGiven (Given k) = 1
+isGiven NoFigures = 0
 
 -- figures, settings and entering of the worked session
 abbrev pub loaded : Figures
@@ -54,10 +66,60 @@ starredValues =
     ∷ row (stoppingDistance loaded 265 0) 797
     ∷ row (orderNumber (orderFor loaded limits (entered .head + 20000) entered)) 1
     ∷ row (orderCap (orderFor loaded limits (entered .head + 20000) entered)) 2537
-    ∷ row (answerTo (figuresOf 1 0)) 4
-    ∷ row (answerTo (figuresOf 1 10001)) 4
-    ∷ row (answerTo (figuresOf 0 2345)) 4
-    ∷ row (answerTo (figuresOf 4 2345)) 4
-    -- not starred: the count's example
+    ∷ row (isGiven (figuresOf 1 0)) 0
+    ∷ row (isGiven (figuresOf 1 10001)) 0
+    ∷ row (isGiven (figuresOf 0 2345)) 0
+    ∷ row (isGiven (figuresOf 4 2345)) 0
+    -- not starred: the count's example, and the growth that the session's entering shows
     ∷ row (1 + cyclesToStand loaded 26822400) 708
+    ∷ row (growthGiven (figuresOf 1 2345)) 264
     ∷ []
+
+-- a moving train; B/2 is between levels 66651 and 66652
+abbrev pub moving : ℕ → ℕ → Motion
+moving v b = record { head = 1000000; speed = v; level = b }
+
+-- head, speed and level after a cycle under an order, and its reach: four rows
+abbrev pub cycle : Motion → Order → ℕ → ℕ → ℕ → ℕ → List Row → List Row
+cycle m o head speed level stops rows =
+    row (worstCase loaded m o .head) head
+    ∷ row (worstCase loaded m o .speed) speed
+    ∷ row (worstCase loaded m o .level) level
+    ∷ row (reach loaded m o) stops
+    ∷ rows
+
+-- order number and cap at speed 200,000 on a line with ceiling V and greatest traction 10: two rows
+abbrev pub ordered : ℕ → ℕ → ℕ → ℕ → List Row → List Row
+ordered ceiling goal number cap rows =
+    let o = orderFor loaded (record { ceiling = ceiling; traction = 10 }) goal (moving 200000 0) in
+    row (orderNumber o) number ∷ row (orderCap o) cap ∷ rows
+
+abbrev pub workedValues : List Row
+workedValues =
+    -- growth, B over the cycles. At 5 ft and 9,999 ft an application time of 12.23 s would give 1,075 and 67.
+    row (growthGiven (figuresOf 1 1)) 1083
+    ∷ row (growthGiven (figuresOf 1 5)) 1083
+    ∷ row (growthGiven (figuresOf 1 9999)) 68
+    ∷ row (growthGiven (figuresOf 1 10000)) 67
+    ∷ row (growthGiven (figuresOf 2 1)) 1317
+    ∷ row (growthGiven (figuresOf 3 10000)) 44
+    -- 2×v + c, v + c, 0
+    ∷ cycle (moving 200000 66000) (Drive 3000) 1403000 203000 0 12221269
+    -- 2×v − b, v − b, b + j: below B/2, above it, at B, and where b + j is above B
+    (cycle (moving 200000 66000) Brake 1334000 134000 66264 1604702
+    (cycle (moving 200000 66652) Brake 1333348 133348 66916 1598821
+    (cycle (moving 200000 133303) Brake 1266697 66697 133303 1300069
+    (cycle (moving 200000 133100) Brake 1266900 66900 133303 1300475
+    -- slower than the level: v²/b rounded up, 0, b + j
+    (cycle (moving 1000 70000) Brake 1000015 0 70264 1000015
+    -- free track: up to the greatest traction, up to the ceiling, at the ceiling, one above it
+    (ordered 40000000 1001000000 1 10
+    (ordered 200007 1001000000 1 7
+    (ordered 200000 1001000000 1 0
+    (ordered 199999 1001000000 2 0
+    -- the reach of cap 5 is 11,981,244, that of cap 0 is 11,980,844: at it, and one step short of it
+    (ordered 40000000 11981244 1 5
+    (ordered 40000000 11981243 1 4
+    (ordered 40000000 11980844 1 0
+    (ordered 40000000 11980843 2 0
+    [])))))))))))))

@@ -8,7 +8,7 @@ use mathlib.Core.Path.{_≡_, refl, _∙_}
 use native.Mathlib.Omega.{arith}
 use lib.ListN.{length}
 use borrow.Author.Tests.{le-leb}
-use Rattle.logic.proofs.Tests.{by-test, both}
+use Rattle.logic.proofs.Tests.{by-test}
 use Rattle.motion.specs.declared.Order.the-variants.{Brake}
 use Rattle.motion.specs.Orders.{orderCap}
 use Rattle.ranges.specs.Ranges.{greatestLineEnd, greatestCeiling, greatestTraction}
@@ -26,15 +26,15 @@ use Rattle.table.specs.declared.Table.{Table}
 use Rattle.calls.specs.declared.Call.{Call}
 use Rattle.calls.specs.declared.Answer.the-variants.{Accepted}
 use Rattle.calls.specs.declared.Values.the-variants.{Zeros}
-use Rattle.ranges.specs.Ranges.{between, lineEndInRange, safetyInRange, ceilingInRange, tractionInRange}
+use Rattle.ranges.specs.Ranges.{between}
 use Rattle.train.specs.Ranges.{settingsInRange, settingsOf}
 use Rattle.table.specs.Table.{trainAt, limitAt}
 use Rattle.train.specs.Report.{reachOf, allowed, motionAfter, computable, reportAllowed}
 use Rattle.train.specs.Acts.{callBackAllowed}
 use Rattle.line.specs.Step.{outcome, openStep}
-use Rattle.ranges.proofs.Ranges.{between-both}
 use Rattle.line.proofs.Steps.{open-made}
 use Rattle.train.proofs.Checks.{allowed-no-worse}
+use Rattle.train.proofs.Sentences.{settings-exactly}
 use Rattle.safety.specs.History.{history, after, Told, told}
 use Rattle.safety.specs.Claim.{recordOf}
 use Rattle.safety.proofs.Train.{Guarded, guarded-head}
@@ -51,12 +51,7 @@ pub record InRange (σ : Settings) : Type 0 where
   pub traction : σ .limits .traction ≤ greatestTraction
 
 ranges : (o : Opening) → settingsInRange o ≡ true → InRange (settingsOf o)
-unfolding settingsInRange
-ranges o e =
-    let three = both _ (tractionInRange (o .traction)) e in
-    let two = both _ (ceilingInRange (o .ceiling)) (three .0) in
-    let one = both (lineEndInRange (o .end)) (safetyInRange (o .safety)) (two .0) in
-    record { end = between-both _ _ _ (one .0) .1; ceiling = between-both _ _ _ (two .1) .1; traction = between-both _ _ _ (three .1) .1 }
+ranges o e = let f = settings-exactly o .0 e in record { end = f .end .1; ceiling = f .ceiling .1; traction = f .traction .1 }
 
 -- a train on the line with this limit, whose end is on it too
 pub record OnTrack (σ : Settings) (limit : Limit) (x : Train) : Type 0 where

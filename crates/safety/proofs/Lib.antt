@@ -6,4 +6,7 @@ pub mod Tables
 pub mod Calls
 pub mod Demand3
 pub mod Bounds
+pub mod Demand2
+pub mod Repeats
+pub mod Refuted
 pub mod Worked

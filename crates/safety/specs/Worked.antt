@@ -1,8 +1,9 @@
--- Worked examples: document 01's session as calls and printed answers, and a second list of calls for the words of demand 3
--- (proofs/Worked: worked).
+-- Worked examples: document 01's session as calls and printed answers, a second list of calls for the words of demand 3 (proofs/Worked:
+-- worked), and histories that no controller may have, since the claim does not hold of them (proofs/Refuted).
 use Prim.Native.Nat.{ℕ}
 use mathlib.Core.Option.{Option, none, some}
 use mathlib.Core.List.{List, [], _∷_, map}
+use lib.ListN.{replicate}
 use Rattle.calls.specs.declared.Opening.{Opening}
 use Rattle.calls.specs.declared.Act.{Act}
 use Rattle.calls.specs.declared.Act.the-variants.{Report, Extend, CallBack, Hold, Lift}
@@ -12,6 +13,7 @@ use Rattle.calls.specs.declared.Numbers.{Numbers}
 use Rattle.calls.specs.Answers.{numbers, numbersOf}
 use Rattle.line.specs.Step.{openStep}
 use Rattle.safety.specs.History.{Event, history, Told, told, rearOf}
+use Rattle.safety.specs.Claim.{heldReports}
 
 abbrev pub enter : ℕ → ℕ → ℕ → ℕ → ℕ → Call
 enter id h l load s = Enter (record { id = id; head = h; length = l; load = load; start = s })
@@ -111,3 +113,50 @@ secondWords =
     record { id = 7; start = 5; head = 24295120000; speed = 0; rear = 10000000000; end = 24295120000; held = none }
     ∷ record { id = 9; start = 0; head = 1000000000; speed = 0; rear = 390400000; end = 1000000500; held = some 2 }
     ∷ []
+
+-- ---- the count of document 01's example, and histories that break the claim
+
+-- an accepted call with its three values
+abbrev pub said : Call → ℕ → ℕ → ℕ → Event
+said c a b d = record { call = c; answer = numbers 0 a b d }
+
+-- the session's train
+abbrev pub loadedEnters : Event
+loadedEnters = said (enter 7 14295120000 2345 1 0) 133303 264 14295120000
+
+-- 1 + 505 + 202
+abbrev pub heldCount : List Told → ℕ
+heldCount [] = 0
+heldCount (x ∷ xs) = heldReports sessionLine x
+
+-- its head is past its end, by one step
+abbrev pub headPastEnd : List Event
+headPastEnd = loadedEnters ∷ said (Own 7 (report 14295120001 0)) 2 0 14295120001 ∷ []
+
+-- the first train, with its rear at 20,000,000,000
+abbrev pub firstEnters : Event
+firstEnters = said (enter 1 34295120000 2345 1 0) 133303 264 34295120000
+
+-- an end one step nearer to it than the safety distance
+abbrev pub endTooNear : List Event
+endTooNear = firstEnters ∷ said (enter 2 12000000001 100 1 0) 133303 962 12000000001 ∷ []
+
+-- the end of the first train one step beyond the line end
+abbrev pub endOffTheLine : List Event
+endOffTheLine = said (enter 1 200000000001 2345 1 0) 133303 264 200000000001 ∷ []
+
+-- the third train overlaps the first by one step, and not the second
+abbrev pub overlapOfTwo : List Event
+overlapOfTwo =
+    firstEnters
+    ∷ said (enter 2 40000000000 100 1 0) 133303 962 40000000000
+    ∷ said (enter 3 20000000001 100 1 0) 133303 962 20000000001
+    ∷ []
+
+-- held, it has had 708 reports, and moves
+abbrev pub heldAndMoving : List Event
+heldAndMoving = loadedEnters ∷ said (Own 7 Hold) 0 0 0 ∷ replicate 708 (said (Own 7 (report 14295120000 1)) 2 0 14295120000)
+
+-- its figures are those of another class
+abbrev pub figuresMadeUp : List Event
+figuresMadeUp = said (enter 7 14295120000 2345 3 0) 133303 264 14295120000 ∷ []

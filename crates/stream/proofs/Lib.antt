@@ -3,3 +3,4 @@ pub mod Fitting
 pub mod Lines
 pub mod Pieces
 pub mod Safe
+pub mod Sentences

@@ -1,7 +1,7 @@
 -- Laws of the limit.
 -- Assumes nothing.
 use Prim.Native.Nat.{ℕ, _+_, _-_, _≤_, _<_}
-use mathlib.Core.Bool.{true}
+use mathlib.Core.Bool.{true, false}
 use mathlib.Core.Option.{none, some}
 use mathlib.Core.Path.{_≡_, refl, subst}
 use native.Mathlib.Omega.{arith}
@@ -23,6 +23,14 @@ InLimit Nowhere place = ⊥
 pub limit-tested : (l : Limit) (place : ℕ) → withinLimit l place ≡ true → InLimit l place
 limit-tested (Place limit) place e = leb-true _ _ e
 limit-tested Nowhere place e = let z : _≡_ {A = ℕ} 0 1 = cc in omega arith
+
+pub limit-within : (l : Limit) (place : ℕ) → InLimit l place → withinLimit l place ≡ true
+limit-within (Place limit) place limited = le-leb place limit limited
+limit-within Nowhere place limited = absurd limited
+
+pub limit-beyond : (l : Limit) (place : ℕ) → (InLimit l place → ⊥) → withinLimit l place ≡ false
+limit-beyond (Place limit) place beyond = by-test (leb place limit) (λ e. absurd (beyond (leb-true _ _ e))) (λ e. e)
+limit-beyond Nowhere place beyond = refl
 
 pub limit-below : (l : Limit) {p q : ℕ} → p ≤ q → InLimit l q → InLimit l p
 limit-below (Place limit) h limited = omega arith

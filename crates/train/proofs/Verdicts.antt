@@ -1,8 +1,8 @@
 -- Laws of the acts: what each check leads to. Whoever cites these opens no list of checks.
 -- Assumes nothing.
 use Prim.Native.Nat.{ℕ, _+_}
-use mathlib.Core.Bool.{Bool, true, false}
-use mathlib.Core.Path.{_≡_, refl}
+use mathlib.Core.Bool.{true, false}
+use mathlib.Core.Path.{_≡_}
 use borrow.Author.Tests.{eq-eqb, ne-eqb}
 use Rattle.calls.specs.declared.Reading.{Reading}
 use Rattle.calls.specs.declared.Asked.{Asked}
@@ -19,7 +19,7 @@ use Rattle.train.specs.Record.{authorised}
 use Rattle.train.specs.Track.{withinLimit}
 use Rattle.train.specs.Report.{reachOf, reported, reportAllowed}
 use Rattle.train.specs.Acts.{isRepeat, isOld, granted, extended, calledBack, callBackAllowed}
-use Rattle.train.specs.Decide.{reporting, extending, callingBack, marking, verdict}
+use Rattle.train.specs.Decide.{reporting, extending, callingBack, verdict}
 
 module _ (σ : Settings) (x : Train) where
   -- ---- report
@@ -76,10 +76,3 @@ module _ (x : Train) (place : ℕ) where
   pub call-back-taken : callBackAllowed x place ≡ true → verdict (callingBack x place) ≡ Passed Zeros (calledBack x place)
   unfolding firstOf
   call-back-taken e = rw e
-
--- ---- hold and lift
-
--- the mark alone: the order already given stays
-pub marks-alone : (x : Train) (b : Bool) → let y = marking x b .after in
-    (y .motion ≡ x .motion) × (y .order ≡ x .order) × (y .authority ≡ x .authority) × (y .marks .held ≡ b)
-marks-alone x b = (refl, refl, refl, refl)

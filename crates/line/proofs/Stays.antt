@@ -1,0 +1,178 @@
+-- What stays true of a train on the line, whatever is called: a property of its record that its own acts keep.
+-- Assumes nothing.
+use Prim.Native.Nat.{ℕ, zero, suc, _<_}
+use mathlib.Core.Bool.{true}
+use mathlib.Core.Logic.{by-cases}
+use mathlib.Core.Option.{none, some}
+use mathlib.Core.Path.{_≡_, refl, sym, ap, _∙_, subst}
+use native.Mathlib.Decide.{ℕ-discrete}
+use native.Mathlib.Omega.{arith}
+use Rattle.brake.specs.declared.Figures.{Figures}
+use Rattle.calls.specs.declared.Entry.{Entry}
+use Rattle.calls.specs.declared.Act.{Act}
+use Rattle.calls.specs.declared.Call.{Call}
+use Rattle.calls.specs.declared.Call.the-variants.{Enter, Own, TakeOff}
+use Rattle.calls.specs.declared.Refusal.{Refusal}
+use Rattle.calls.specs.Answers.{numbersOf}
+use Rattle.calls.specs.Checks.{firstOf}
+use Rattle.calls.proofs.Answers.{accepted-0, refusal-range}
+use Rattle.train.specs.declared.Train.{Train}
+use Rattle.train.specs.declared.Settings.{Settings}
+use Rattle.train.specs.declared.Limit.{Limit}
+use Rattle.train.specs.Record.{entering}
+use Rattle.train.specs.Acts.{mayLeave}
+use Rattle.train.specs.Decide.{decide}
+use Rattle.train.proofs.Sentences.{leaves-exactly, act-leaves}
+use Rattle.table.specs.declared.Table.{Table}
+use Rattle.table.specs.declared.Change.the-variants.{Put, Add, DropFirst}
+use Rattle.table.specs.Table.{placeOf, trainAt, changed}
+use Rattle.table.proofs.Places.{found-below, still-found, still-there}
+use Rattle.table.proofs.Trains.{Sized, sized-with, sized-last, sized-without-first}
+use Rattle.table.proofs.Sentences.{FirstWith, found-exactly, put-leaves, add-leaves, drop-leaves}
+use Rattle.line.specs.declared.Decision.{Decision}
+use Rattle.line.specs.Decide.{refused, enterChecks, rulingAt}
+use Rattle.line.specs.Step.{step}
+use Rattle.line.proofs.Steps.{any-call, enter-room}
+
+-- ---- the table has its 32 places, and no more are in use
+
+pub sized-step : (t : Table) → Sized t → (c : Call) → Sized (step t c .table)
+unfolding step
+sized-step t sized =
+    any-call t (λ c d. Sized (changed t (d .change)))
+    (record {
+      refuses = λ c r. sized;
+      enters = λ e k f q. sized-last t (entering e k) sized (enter-room t e q);
+      acts = λ j p a f q. sized-with t p _ sized;
+      leaves = λ j p f may. let below = found-below t j p f in sized-without-first t sized (omega arith);
+    })
+
+-- ---- what it works with stays
+
+pub settings-step : (t : Table) (c : Call) → step t c .table .settings ≡ t .settings
+unfolding step
+settings-step t =
+    any-call t (λ c d. changed t (d .change) .settings ≡ t .settings)
+    (record { refuses = λ c r. refl; enters = λ e k f q. refl; acts = λ j p a f q. refl; leaves = λ j p f may. refl })
+
+-- ---- an accepted act
+
+-- the train that acted, at its place; it passed its checks, and its record there is another
+pub record Acted (t : Table) (id : ℕ) (a : Act) (u : Table) : Type 0 where
+  pub place : ℕ
+  pub found : placeOf t id ≡ some place
+  pub passes : firstOf (rulingAt t a place .checks) ≡ none
+  pub table : u ≡ changed t (Put place (rulingAt t a place .after))
+
+pub own-accepted : (t : Table) (id : ℕ) (a : Act) → numbersOf (step t (Own id a) .answer) .number ≡ 0 → Acted t id a (step t (Own id a) .table)
+unfolding step
+own-accepted t id a =
+    any-call t Shows
+    (record {
+      refuses = refuses;
+      enters = λ e k f q. tt;
+      acts = λ j p a f q zero. record { place = p; found = f; passes = q; table = refl };
+      leaves = λ j p f may. tt;
+    }) (Own id a)
+  where
+    Shows : Call → Decision → Type 0
+    Shows (Enter e) d = Unit {0}
+    Shows (Own j a) d = numbersOf (d .answer) .number ≡ 0 → Acted t j a (changed t (d .change))
+    Shows (TakeOff j) d = Unit {0}
+
+    refuses : (c : Call) (r : Refusal) → Shows c (refused r)
+    refuses (Enter e) r = tt
+    refuses (Own j a) r = λ zero. let range = refusal-range r in absurd (omega arith)
+    refuses (TakeOff j) r = tt
+
+-- ---- one train
+
+-- the train with this id is on the line, and its record has the property Q
+pub record Holds (Q : Train → Type 0) (id : ℕ) (t : Table) : Type 0 where
+  pub place : ℕ
+  pub found : placeOf t id ≡ some place
+  pub so : Q (trainAt t place)
+
+-- the call with this answer number does not take it off, and if it is an accepted act of it, keeps the property
+abbrev pub Keeps : (Train → Type 0) → ℕ → ℕ → Call → Type 0
+Keeps Q id n (Enter e) = Unit {0}
+Keeps Q id n (Own j a) =
+    j ≡ id → n ≡ 0 → (σ : Settings) (limit : Limit) (x : Train) → firstOf (decide σ limit x a .checks) ≡ none → Q x → Q (decide σ limit x a .after)
+Keeps Q id n (TakeOff j) = j ≡ id → n ≡ 0 → ⊥
+
+module _ (Q : Train → Type 0) (id : ℕ) (t : Table) (sized : Sized t) (h : Holds Q id t) where
+  abbrev i : ℕ
+  i = h .place
+
+  first : FirstWith t sized id i
+  first = found-exactly t sized id i .0 (h .found)
+
+  after-enter : (e : Entry) (k : Figures) → firstOf (enterChecks t e) ≡ none → Holds Q id (changed t (Add (entering e k)))
+  after-enter e k q =
+      let x = entering e k in
+      let free = enter-room t e q in
+      let below = first .below in
+      let there = add-leaves t x in
+      record {
+        place = i;
+        found =
+            found-exactly (changed t (Add x)) (sized-last t x sized free) id i .1
+            (record {
+              below = omega arith;
+              here = ap (λ (y : Train). y .id) (there i below) ∙ first .here;
+              none-ahead = λ j before e. first .none-ahead j before (ap (λ (y : Train). y .id) (sym (there j (omega arith))) ∙ e);
+            });
+        so = subst Q (sym (there i below)) (h .so);
+      }
+
+  after-act : (j p : ℕ) (a : Act) → placeOf t j ≡ some p → firstOf (rulingAt t a p .checks) ≡ none → Keeps Q id 0 (Own j a) → Holds Q id (changed t (Put p (rulingAt t a p .after)))
+  after-act j p a f q keeps =
+      let y = rulingAt t a p .after in
+      let same = act-leaves (t .settings) _ (trainAt t p) a .id in
+      record {
+        place = i;
+        found = still-found t p y (found-below t j p f) same id ∙ h .found;
+        so =
+            by-cases (ℕ-discrete i p)
+            (λ e.
+            let mine : j ≡ id = sym (found-exactly t sized j p .0 f .here) ∙ ap (λ (n : ℕ). trainAt t n .id) (sym e) ∙ first .here in
+            subst Q (sym (still-there t j p y f) ∙ ap (λ (n : ℕ). trainAt (changed t (Put p y)) n) (sym e)) (keeps mine refl _ _ _ q (subst (λ (n : ℕ). Q (trainAt t n)) e (h .so))))
+            (λ e. subst Q (sym (put-leaves t p i y e)) (h .so));
+      }
+
+  -- the train that leaves is the first, and another
+  after-off : (j p : ℕ) → placeOf t j ≡ some p → mayLeave p (trainAt t p) ≡ true → (j ≡ id → ⊥) → Holds Q id (changed t DropFirst)
+  after-off j p f may other = go i refl
+    where
+      at-front : p ≡ 0
+      at-front = leaves-exactly p (trainAt t p) .0 may .0
+
+      go : (n : ℕ) → i ≡ n → Holds Q id (changed t DropFirst)
+      go zero e = absurd (other (sym (found-exactly t sized j p .0 f .here) ∙ ap (λ (n : ℕ). trainAt t n .id) (at-front ∙ sym e) ∙ first .here))
+      go (suc n) e =
+          let below : suc n < t .count = subst (λ (m : ℕ). m < t .count) e (first .below) in
+          let there = drop-leaves t sized in
+          record {
+            place = n;
+            found =
+                found-exactly (changed t DropFirst) (sized-without-first t sized (omega arith)) id n .1
+                (record {
+                  below = omega arith;
+                  here = ap (λ (y : Train). y .id) (there n below) ∙ ap (λ (m : ℕ). trainAt t m .id) (sym e) ∙ first .here;
+                  none-ahead = λ m before q. first .none-ahead (suc m) (omega arith) (ap (λ (y : Train). y .id) (sym (there m (omega arith))) ∙ q);
+                });
+            so = subst Q (ap (λ (m : ℕ). trainAt t m) e ∙ sym (there n below)) (h .so);
+          }
+
+  -- after any call that keeps it
+  pub still-holds : (c : Call) → Keeps Q id (numbersOf (step t c .answer) .number) c → Holds Q id (step t c .table)
+  unfolding step
+  still-holds =
+      any-call t (λ c d. Keeps Q id (numbersOf (d .answer) .number) c → Holds Q id (changed t (d .change)))
+      (record {
+        refuses = λ c r keeps. h;
+        enters = λ e k f q keeps. after-enter e k q;
+        acts = λ j p a f q keeps.
+            after-act j p a f q (subst (λ (n : ℕ). Keeps Q id n (Own j a)) (accepted-0 (rulingAt t a p .gives)) keeps);
+        leaves = λ j p f may off. after-off j p f may (λ mine. off mine refl);
+      })

@@ -1,0 +1,203 @@
+-- Demand 2, a law to a sentence: in its words and order, of every table that a list of calls left on an opened line, in numbers and in the
+-- fields of records. What each law cites is said of one train in train/proofs/Sentences, of motion and caps in motion/proofs/Sentences and
+-- OrderSentences, of figures in brake/proofs/Sentences. Entering and taking off, which ask no list, are in line/proofs/Rules.
+-- Assumes nothing.
+use Prim.Native.Nat.{ℕ, suc, _+_, _*_, _≤_, _<_}
+use mathlib.Core.Bool.{Bool, true, false}
+use mathlib.Core.List.{List}
+use mathlib.Core.Logic.{_⊎_, inl, inr, _↔_}
+use mathlib.Core.Option.{some}
+use mathlib.Core.Path.{_≡_, refl, sym, ap, _∙_}
+use Rattle.logic.proofs.Tests.{by-test}
+use Rattle.brake.specs.Consist.{Sound}
+use Rattle.brake.proofs.Sentences.{Described, figures-exactly}
+use Rattle.motion.specs.declared.Motion.{Motion}
+use Rattle.motion.specs.declared.Order.{Order}
+use Rattle.motion.specs.declared.Order.the-variants.{Drive, Brake}
+use Rattle.motion.specs.Motion.{stoppingDistance}
+use Rattle.motion.specs.Orders.{reach}
+use Rattle.motion.proofs.OrderSentences.{GreatestCap, standing-at-end}
+use Rattle.calls.specs.declared.Opening.{Opening}
+use Rattle.calls.specs.declared.Reading.{Reading}
+use Rattle.calls.specs.declared.Asked.{Asked}
+use Rattle.calls.specs.declared.Act.the-variants.{Report, Extend, CallBack, Hold, Lift}
+use Rattle.calls.specs.declared.Call.{Call}
+use Rattle.calls.specs.declared.Call.the-variants.{Own}
+use Rattle.calls.specs.declared.Refusal.the-variants.{NotAllowed, BadRequest, OldNumber, OtherLength, NoTrack, BadPlace}
+use Rattle.calls.specs.declared.Answer.the-variants.{Accepted, Refused}
+use Rattle.calls.specs.declared.Values.the-variants.{Ordered, Extended, Zeros}
+use Rattle.train.specs.declared.Authority.{Authority}
+use Rattle.train.specs.declared.Train.{Train}
+use Rattle.train.specs.Record.{same}
+use Rattle.train.specs.Report.{worstOf, reachOf, orderAfter}
+use Rattle.train.proofs.Track.{InLimit}
+use Rattle.train.proofs.Records.{WorksWith, settings-given, free-order}
+use Rattle.train.proofs.Sentences.{report-exactly, report-9, report-answered, held-order, free-drives, free-brakes, Asks, extension-10, extension-11, extension-12, extension-repeated, extension-13, extension-taken, call-back-moves, call-back-14, hold-marks, lift-unmarks}
+use Rattle.table.specs.declared.Table.{Table}
+use Rattle.table.specs.declared.Change.the-variants.{Put}
+use Rattle.table.specs.Table.{placeOf, trainAt, limitAt, changed}
+use Rattle.table.proofs.Places.{found-below, put-same}
+use Rattle.table.proofs.Sentences.{limit-in-front, limit-further-back}
+use Rattle.line.specs.Step.{outcome, openStep, step}
+use Rattle.line.proofs.Rules.{own-step}
+use Rattle.safety.specs.History.{after}
+use Rattle.safety.specs.Claim.{recordOf}
+use Rattle.safety.proofs.Calls.{agrees}
+use Rattle.safety.proofs.Bounds.{tells, always-computable, report-judged}
+
+module _ (o : Opening) (t : Table) (opened : openStep o ≡ outcome (Accepted Zeros) t) (cs : List Call) where
+  abbrev now : Table
+  now = after t cs
+
+  -- the table works with the numbers that were opened
+  pub works-with : WorksWith o (now .settings)
+  works-with = rw (agrees o t opened cs .settings) (settings-given o)
+
+  -- "at most 32 trains"
+  pub at-most-32 : now .count ≤ 32
+  at-most-32 = agrees o t opened cs .sized .count
+
+  -- ---- "Brake force, application time ... equal the definitions"
+
+  -- of each train on the line, for the load class and the length that it entered with
+  pub figures : (i : ℕ) → i < now .count → (load : ℕ) × Described load (trainAt now i .length) (trainAt now i .figures)
+  unfolding recordOf
+  figures i below =
+      let p = tells o t opened cs i below in
+      rw (p .here) (p .train .entry .load, figures-exactly _ _ _ .0 (p .steady .consist))
+
+  -- ---- a train on the line
+
+  module _ (id i : ℕ) (found : placeOf now id ≡ some i) where
+    abbrev x : Train
+    x = trainAt now i
+
+    below : i < now .count
+    below = found-below now id i found
+
+    sound : Sound (x .figures)
+    sound = let p = tells o t opened cs i below in rw (p .here) (p .steady .guarded .figures)
+
+    -- ---- "order, reach"
+
+    module _ (r : Reading) where
+      -- neither backward nor worse than the order allows
+      abbrev Allowed : Type 0
+      Allowed = (x .motion .head ≤ r .head) × (r .head ≤ worstOf x .head) × (r .speed ≤ worstOf x .speed)
+
+      -- 9
+      pub report-refused : (Allowed → ⊥) → step now (Own id (Report r)) ≡ outcome (Refused NotAllowed) now
+      report-refused worse = own-step now id i found (Report r) _ (report-9 (now .settings) (limitAt now i) x r worse)
+
+      -- "a brake order starts at the level found after the last cycle"
+      abbrev m : Motion
+      m = record { head = r .head; speed = r .speed; level = worstOf x .level }
+
+      abbrev given : Order
+      given = orderAfter (now .settings) x m
+
+      -- the answer is the order and its reach; the record has what was reported, and that order
+      pub report-accepted : Allowed
+          → step now (Own id (Report r))
+          ≡ outcome (Accepted (Ordered given (reach (x .figures) m given))) (changed now (Put i (same x m given (x .authority) (x .marks))))
+      report-accepted so =
+          own-step now id i found (Report r) _
+          (report-answered (now .settings) (limitAt now i) x r (report-judged o t opened cs i below r ∙ report-exactly x r .1 so))
+
+      -- "Traction offered is the greatest, within the engine's limit and the speed ceiling, after which the air brake, starting from
+      -- nothing, still stops the train at or before its end."
+      pub traction-offered : x .marks .held ≡ false → (c : ℕ) → (given ≡ Drive c) ↔ GreatestCap (x .figures) (now .settings .limits) (x .authority .end) m c
+      traction-offered free c = free-drives (now .settings) x m free c
+
+      -- "At a report, brake is ordered exactly when the train is held or no traction, not even zero, would do."
+      abbrev NoneWouldDo : Type 0
+      NoneWouldDo = (now .settings .limits .ceiling < r .speed) ⊎ (x .authority .end < r .head + 2 * r .speed + stoppingDistance (x .figures) (r .speed) 0)
+
+      pub brake-ordered : (given ≡ Brake) ↔ ((x .marks .held ≡ true) ⊎ NoneWouldDo)
+      brake-ordered = (only, exactly)
+        where
+          only : given ≡ Brake → (x .marks .held ≡ true) ⊎ NoneWouldDo
+          only e = by-test (x .marks .held) (λ held. inl held) (λ free. inr (free-brakes (now .settings) x m free sound .0 e))
+
+          exactly : (x .marks .held ≡ true) ⊎ NoneWouldDo → given ≡ Brake
+          exactly (inl held) = held-order (now .settings) x m held
+          exactly (inr none) =
+              by-test (x .marks .held)
+              (λ held. held-order (now .settings) x m held)
+              (λ free. free-brakes (now .settings) x m free sound .1 none)
+
+      -- "A standing train at its end gets drive with cap 0."
+      pub standing-drives : x .marks .held ≡ false → r .speed ≡ 0 → x .authority .end ≡ r .head → given ≡ Drive 0
+      standing-drives free standing here =
+          free-order (now .settings) x m free ∙ standing-at-end (x .figures) (now .settings .limits) (x .authority .end) m standing here
+
+    -- ---- "authority"
+
+    module _ (q : Asked) where
+      -- 10
+      pub extend-10 : (Asks (now .settings) q → ⊥) → step now (Own id (Extend q)) ≡ outcome (Refused BadRequest) now
+      extend-10 out = own-step now id i found (Extend q) _ (extension-10 (now .settings) (limitAt now i) x q out)
+
+      module _ (a : Asks (now .settings) q) where
+        -- 11
+        pub extend-11 : (q .number ≤ x .authority .start) ⊎ (q .number < x .authority .number) → step now (Own id (Extend q)) ≡ outcome (Refused OldNumber) now
+        extend-11 old = own-step now id i found (Extend q) _ (extension-11 (now .settings) (limitAt now i) x q a old)
+
+        module _ (above : x .authority .start < q .number) where
+          -- 12
+          pub extend-12 : q .number ≡ x .authority .number → (q .length ≡ x .authority .asked → ⊥) → step now (Own id (Extend q)) ≡ outcome (Refused OtherLength) now
+          extend-12 last other = own-step now id i found (Extend q) _ (extension-12 (now .settings) (limitAt now i) x q a above last other)
+
+          -- the repeat; of one accepted longer ago, and after which calls, is said in Repeats
+          pub extend-again : q .number ≡ x .authority .number → q .length ≡ x .authority .asked
+              → step now (Own id (Extend q)) ≡ outcome (Accepted (Extended (x .authority .end) true)) now
+          extend-again last length =
+              own-step now id i found (Extend q) _ (extension-repeated (now .settings) (limitAt now i) x q a above last length)
+              ∙ ap (outcome (Accepted (Extended (x .authority .end) true))) (put-same now i x refl)
+
+          -- "A new, well-formed request by a train on the line is refused exactly when the track is not there": 13, or end + length
+          module _ (new : x .authority .number < q .number) where
+            pub extend-13 : (InLimit (limitAt now i) (x .authority .end + q .length) → ⊥) → step now (Own id (Extend q)) ≡ outcome (Refused NoTrack) now
+            extend-13 beyond = own-step now id i found (Extend q) _ (extension-13 (now .settings) (limitAt now i) x q a above new beyond)
+
+            pub extend-accepted : InLimit (limitAt now i) (x .authority .end + q .length)
+                → let longer : Authority = record { end = x .authority .end + q .length; start = x .authority .start; number = q .number; asked = q .length } in
+                step now (Own id (Extend q))
+                ≡ outcome (Accepted (Extended (x .authority .end + q .length) false)) (changed now (Put i (same x (x .motion) (x .order) longer (x .marks))))
+            extend-accepted within = own-step now id i found (Extend q) _ (extension-taken (now .settings) (limitAt now i) x q a above new within)
+
+    -- 14, and "the end becomes a named place from reach to end, both included"
+    pub call-back-refused : (place : ℕ) → (place < reachOf x) ⊎ (x .authority .end < place) → step now (Own id (CallBack place)) ≡ outcome (Refused BadPlace) now
+    call-back-refused place out = own-step now id i found (CallBack place) _ (call-back-14 (now .settings) (limitAt now i) x place out)
+
+    pub call-back-accepted : (place : ℕ) → reachOf x ≤ place → place ≤ x .authority .end
+        → let nearer : Authority = record { end = place; start = x .authority .start; number = x .authority .number; asked = x .authority .asked } in
+        step now (Own id (CallBack place)) ≡ outcome (Accepted Zeros) (changed now (Put i (same x (x .motion) (x .order) nearer (x .marks))))
+    call-back-accepted place low high =
+        own-step now id i found (CallBack place) _ (call-back-moves (now .settings) (limitAt now i) x place (always-computable o t opened cs i below) low high)
+
+    -- hold and lift are taken always, and change the mark alone
+    pub hold-accepted : step now (Own id Hold) ≡ outcome (Accepted Zeros) (changed now (Put i (same x (x .motion) (x .order) (x .authority) (record { held = true }))))
+    hold-accepted = own-step now id i found Hold _ (hold-marks (now .settings) (limitAt now i) x)
+
+    pub lift-accepted : step now (Own id Lift) ≡ outcome (Accepted Zeros) (changed now (Put i (same x (x .motion) (x .order) (x .authority) (record { held = false }))))
+    lift-accepted = own-step now id i found Lift _ (lift-unmarks (now .settings) (limitAt now i) x)
+
+    -- "Both may be repeated without effect."
+    mark-stays : (b : Bool) → x .marks .held ≡ b → changed now (Put i (same x (x .motion) (x .order) (x .authority) (record { held = b }))) ≡ now
+    mark-stays b already = put-same now i _ (ap (λ (c : Bool). same x (x .motion) (x .order) (x .authority) (record { held = c })) (sym already))
+
+    pub hold-again : x .marks .held ≡ true → step now (Own id Hold) ≡ outcome (Accepted Zeros) now
+    hold-again held = hold-accepted ∙ ap (outcome (Accepted Zeros)) (mark-stays true held)
+
+    pub lift-again : x .marks .held ≡ false → step now (Own id Lift) ≡ outcome (Accepted Zeros) now
+    lift-again free = lift-accepted ∙ ap (outcome (Accepted Zeros)) (mark-stays false free)
+
+  -- ---- the track that is there
+
+  -- the line end as opened, or the safety distance as opened behind the rear of the train ahead
+  pub track-first : (place : ℕ) → InLimit (limitAt now 0) place ↔ (place ≤ o .end)
+  track-first place = rw (← (ap (λ s. s .end) (agrees o t opened cs .settings))) (limit-in-front now place)
+
+  pub track-behind : (j place : ℕ) → InLimit (limitAt now (suc j)) place ↔ (place + o .safety + 6096000 * trainAt now j .length ≤ trainAt now j .motion .head)
+  track-behind j place = rw (← (ap (λ s. s .safety) (agrees o t opened cs .settings))) (limit-further-back now j place)

@@ -1,0 +1,49 @@
+-- The count is document 01's, and the claim can fail: each part of it is broken by a history of its own.
+-- Assumes nothing.
+use Prim.Native.Nat.{ℕ, suc, _≤_}
+use mathlib.Core.List.{[], _∷_}
+use mathlib.Core.Path.{_≡_, refl, ap}
+use native.Mathlib.Omega.{arith}
+use Rattle.logic.specs.Rounding.{ceilDiv}
+use Rattle.logic.proofs.Tests.{not-both}
+use Rattle.ranges.specs.Ranges.{between}
+use Rattle.brake.specs.Consist.{carOf, fullBrake, applicationTime, applicationCycles, brakeCycles, figuresWith, figuresBy, figuresOf}
+use Rattle.motion.specs.Motion.{nextLevel, stands}
+use Rattle.motion.specs.Count.{cyclesToStand}
+use Rattle.motion.specs.Starred.{fullGiven}
+use Rattle.train.specs.Track.{stepsOf}
+use Rattle.safety.specs.History.{isAccepted, toldAct, toldCall, toldBy, told, rearOf}
+use Rattle.safety.specs.Claim.{Claim}
+use Rattle.safety.specs.Worked.{sessionLine, loadedEnters, heldCount, headPastEnd, endTooNear, endOffTheLine, overlapOfTwo, heldAndMoving, figuresMadeUp}
+
+pub counted : heldCount (told (loadedEnters ∷ [])) ≡ 708
+unfolding ceilDiv cyclesToStand isAccepted toldCall toldBy told
+counted = refl
+
+-- no number is above itself. Each part is refuted from itself alone: no other part is in reach here.
+not-above : (n : ℕ) → suc n ≤ n → ⊥
+not-above n h = omega arith
+
+pub head-refuted : Claim sessionLine headPastEnd → ⊥
+unfolding Claim isAccepted toldAct toldCall toldBy told
+head-refuted claim = not-above 14295120000 (claim .0 .head-within-end)
+
+pub end-refuted : Claim sessionLine endTooNear → ⊥
+unfolding Claim isAccepted toldCall toldBy told rearOf stepsOf
+end-refuted claim = not-above 20000000000 (claim .3 .1)
+
+pub line-end-refuted : Claim sessionLine endOffTheLine → ⊥
+unfolding Claim isAccepted toldCall toldBy told
+line-end-refuted claim = not-above 200000000000 (claim .1)
+
+pub overlap-refuted : Claim sessionLine overlapOfTwo → ⊥
+unfolding Claim isAccepted toldCall toldBy told rearOf stepsOf
+overlap-refuted claim = not-above 20000000000 (claim .2 .1 .0)
+
+pub held-refuted : Claim sessionLine heldAndMoving → ⊥
+unfolding Claim ceilDiv cyclesToStand isAccepted toldAct toldCall toldBy told nextLevel stands
+held-refuted claim = not-both (claim .0 .held-stands 708 refl (omega arith)) refl
+
+pub figures-refuted : Claim sessionLine figuresMadeUp → ⊥
+unfolding Claim isAccepted toldCall toldBy told ceilDiv between carOf fullBrake applicationTime applicationCycles brakeCycles figuresWith figuresBy figuresOf
+figures-refuted claim = let full : _≡_ {A = ℕ} 87021 133303 = ap fullGiven (claim .0 .consist) in omega arith

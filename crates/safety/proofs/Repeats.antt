@@ -1,0 +1,198 @@
+-- Repeats, over every list of calls: "the repeat of an accepted one in the same stay adds none".
+-- Assumes nothing.
+use Prim.Native.Nat.{ℕ, _≤_, _<_}
+use mathlib.Core.Bool.{true, false}
+use mathlib.Core.List.{List, [], _∷_}
+use mathlib.Core.Logic.{_⊎_, inl, inr}
+use mathlib.Core.Option.{some}
+use mathlib.Core.Path.{_≡_, refl, sym, ap, subst, _∙_}
+use native.Mathlib.Omega.{arith}
+use lib.Dec.{eqb}
+use borrow.Author.Tests.{eq-eqb}
+use Rattle.logic.proofs.Tests.{not-both}
+use Rattle.calls.specs.declared.Opening.{Opening}
+use Rattle.calls.specs.declared.Asked.{Asked}
+use Rattle.calls.specs.declared.Act.{Act}
+use Rattle.calls.specs.declared.Act.the-variants.{Extend}
+use Rattle.calls.specs.declared.Call.{Call}
+use Rattle.calls.specs.declared.Call.the-variants.{Enter, Own, TakeOff}
+use Rattle.calls.specs.declared.Refusal.{Refusal}
+use Rattle.calls.specs.declared.Answer.the-variants.{Accepted}
+use Rattle.calls.specs.declared.Values.the-variants.{Extended, Zeros}
+use Rattle.calls.specs.Answers.{numbersOf}
+use Rattle.train.specs.declared.Train.{Train}
+use Rattle.train.specs.declared.Settings.{Settings}
+use Rattle.train.specs.declared.Verdict.the-variants.{TurnedDown, Passed}
+use Rattle.train.specs.Acts.{isRepeat, extended}
+use Rattle.train.specs.Decide.{decide, verdict}
+use Rattle.train.proofs.Sentences.{Asks, extension-repeated, extension-used, extension-accepted, Leaves, act-leaves, number-onward}
+use Rattle.table.specs.declared.Table.{Table}
+use Rattle.table.specs.Table.{placeOf, trainAt, limitAt}
+use Rattle.table.proofs.Places.{found-below, still-found, still-there, put-same}
+use Rattle.table.proofs.Trains.{Sized}
+use Rattle.line.specs.Decide.{rulingAt}
+use Rattle.line.specs.Step.{outcome, openStep, step}
+use Rattle.line.proofs.Rules.{own-step}
+use Rattle.line.proofs.Stays.{Holds, Keeps, still-holds, sized-step, settings-step, own-accepted}
+use Rattle.safety.specs.History.{Event, history, after, isAccepted}
+use Rattle.safety.proofs.Calls.{agrees}
+
+-- ---- what stays true over a list of calls
+
+-- each call keeps it
+abbrev KeepsAll : (Train → Type 0) → ℕ → List Event → Type 0
+KeepsAll Q id [] = Unit {0}
+KeepsAll Q id (e ∷ es) = Keeps Q id (e .answer .number) (e .call) × KeepsAll Q id es
+
+lasts : (Q : Train → Type 0) (id : ℕ) (cs : List Call) (t : Table) → Sized t → Holds Q id t → KeepsAll Q id (history t cs) → Holds Q id (after t cs)
+unfolding history after
+lasts Q id [] t sized h keeps = h
+lasts Q id (c ∷ cs) t sized h keeps = lasts Q id cs (step t c .table) (sized-step t sized c) (still-holds Q id t sized h c (keeps .0)) (keeps .1)
+
+-- ---- the present stay
+
+-- no event takes the train off
+abbrev pub Stays : ℕ → List Event → Type 0
+Stays id [] = Unit {0}
+Stays id (e ∷ es) = (e .call ≡ TakeOff id → isAccepted e ≡ false) × Stays id es
+
+-- the number n has been accepted in this stay, at the latest as the last one
+abbrev Used : ℕ → Train → Type 0
+Used n x = (x .authority .start < n) × (n ≤ x .authority .number)
+
+module _ (id n : ℕ) where
+  not-off : (j m : ℕ) (c : Call) → c ≡ TakeOff j → (c ≡ TakeOff id → eqb m 0 ≡ false) → j ≡ id → m ≡ 0 → ⊥
+  not-off j m c e off mine zero = not-both (eq-eqb m 0 zero) (off (e ∙ ap (λ (k : ℕ). TakeOff k) mine))
+
+  used-kept : (c : Call) (m : ℕ) → (c ≡ TakeOff id → eqb m 0 ≡ false) → Keeps (Used n) id m c
+  used-kept (Enter e) m off = tt
+  used-kept (Own j a) m off = λ mine zero σ limit x passes used.
+      let start = act-leaves σ limit x a .start in
+      let onward = number-onward σ limit x a passes in
+      let above = used .0 in
+      let within = used .1 in
+      (omega arith, omega arith)
+  used-kept (TakeOff j) m off = not-off j m (TakeOff j) refl off
+
+  used-all : (es : List Event) → Stays id es → KeepsAll (Used n) id es
+  unfolding isAccepted
+  used-all [] stays = tt
+  used-all (e ∷ es) stays = (used-kept (e .call) (e .answer .number) (stays .0), used-all es (stays .1))
+
+-- an extension with a number that was accepted in this stay leaves the whole table
+used-leaves : (t : Table) (id : ℕ) (q : Asked) → Holds (Used (q .number)) id t → step t (Own id (Extend q)) .table ≡ t
+used-leaves t id q h = go (extension-used (t .settings) (limitAt t i) x q (h .so .0) (h .so .1))
+  where
+    i : ℕ
+    i = h .place
+
+    x : Train
+    x = trainAt t i
+
+    go : ((r : Refusal) × (verdict (decide (t .settings) (limitAt t i) x (Extend q)) ≡ TurnedDown r))
+        ⊎ (verdict (decide (t .settings) (limitAt t i) x (Extend q)) ≡ Passed (Extended (x .authority .end) true) x)
+        → step t (Own id (Extend q)) .table ≡ t
+    go (inl (r, e)) = rw (own-step t id i (h .found) (Extend q) _ e)
+    go (inr e) = rw (own-step t id i (h .found) (Extend q) _ e) (put-same t i x refl)
+
+-- ---- the last accepted extension
+
+-- no event is an accepted extension of the train with another number
+abbrev pub NoOther : ℕ → ℕ → List Event → Type 0
+NoOther id n [] = Unit {0}
+NoOther id n (e ∷ es) = ((p : Asked) → e .call ≡ Own id (Extend p) → isAccepted e ≡ true → p .number ≡ n) × NoOther id n es
+
+-- q is the last accepted one
+abbrev Last : Asked → Train → Type 0
+Last q x = (x .authority .start < q .number) × (x .authority .number ≡ q .number) × (x .authority .asked ≡ q .length)
+
+module _ (id : ℕ) (q : Asked) where
+  last-act : (x y : Train) (a : Act) → Leaves a x y → ((p : Asked) → a ≡ Extend p → p .number ≡ q .number) → Last q x → Last q y
+  unfolding extended isRepeat
+  last-act x y a leaves same last = go (leaves .numbers)
+    where
+      go : ((p : Asked) × (a ≡ Extend p) × (y ≡ extended x p)) ⊎ ((y .authority .number ≡ x .authority .number) × (y .authority .asked ≡ x .authority .asked)) → Last q y
+      go (inl (p, e, again)) =
+          let repeat : p .number ≡ x .authority .number = same p e ∙ sym (last .1) in
+          let unmoved : y ≡ x = again ∙ (rw (eq-eqb (p .number) (x .authority .number) repeat)) in
+          subst (Last q) (sym unmoved) last
+      go (inr (number, asked)) = (rw (leaves .start) (last .0), number ∙ last .1, asked ∙ last .2)
+
+  last-kept : (c : Call) (m : ℕ) → (c ≡ TakeOff id → eqb m 0 ≡ false) → ((p : Asked) → c ≡ Own id (Extend p) → eqb m 0 ≡ true → p .number ≡ q .number)
+      → Keeps (Last q) id m c
+  last-kept (Enter e) m off same = tt
+  last-kept (Own j a) m off same = λ mine zero σ limit x passes last.
+      last-act x (decide σ limit x a .after) a (act-leaves σ limit x a) (λ p e. same p (ap (λ (k : ℕ). Own k a) mine ∙ ap (λ (b : Act). Own id b) e) (eq-eqb m 0 zero)) last
+  last-kept (TakeOff j) m off same = not-off id 0 j m (TakeOff j) refl off
+
+  last-all : (es : List Event) → Stays id es → NoOther id (q .number) es → KeepsAll (Last q) id es
+  unfolding isAccepted
+  last-all [] stays other = tt
+  last-all (e ∷ es) stays other = (last-kept (e .call) (e .answer .number) (stays .0) (other .0), last-all es (stays .1) (other .1))
+
+settings-after : (cs : List Call) (t : Table) → after t cs .settings ≡ t .settings
+unfolding after
+settings-after [] t = refl
+settings-after (c ∷ cs) t = settings-after cs (step t c .table) ∙ settings-step t c
+
+-- ---- over every list of calls
+
+-- on the line that an accepted opening made, after the calls `before`, the extension q of the train is called and accepted
+module _ (o : Opening) (t : Table) (opened : openStep o ≡ outcome (Accepted Zeros) t) (before : List Call) (id : ℕ) (q : Asked)
+    (accepted : numbersOf (step (after t before) (Own id (Extend q)) .answer) .number ≡ 0) where
+  abbrev then : Table
+  then = after t before
+
+  abbrev granted : Table
+  granted = step then (Own id (Extend q)) .table
+
+  sized : Sized granted
+  sized = sized-step then (agrees o t opened before .sized) (Own id (Extend q))
+
+  asked : Asks (then .settings) q
+  asked = let a = own-accepted then id (Extend q) accepted in extension-accepted (then .settings) (limitAt then (a .place)) (trainAt then (a .place)) q (a .passes) .asked
+
+  last-now : Holds (Last q) id granted
+  last-now =
+      let a = own-accepted then id (Extend q) accepted in
+      let x = trainAt then (a .place) in
+      let y = rulingAt then (Extend q) (a .place) .after in
+      let p = extension-accepted (then .settings) (limitAt then (a .place)) x q (a .passes) in
+      let here = still-there then id (a .place) y (a .found) in
+      subst (Holds (Last q) id) (sym (a .table))
+      (record {
+        place = a .place;
+        found = still-found then (a .place) y (found-below then id (a .place) (a .found)) (act-leaves (then .settings) (limitAt then (a .place)) x (Extend q) .id) id ∙ a .found;
+        so = subst (Last q) (sym here) (rw (p .start) (p .above), p .number, p .length);
+      })
+
+  used-now : Holds (Used (q .number)) id granted
+  used-now =
+      let h = last-now in
+      let above = h .so .0 in
+      let number = h .so .1 in
+      record { place = h .place; found = h .found; so = (above, omega arith) }
+
+  -- whatever calls were made since, in the same stay
+  module _ (since : List Call) (stays : Stays id (history granted since)) where
+    abbrev now : Table
+    now = after granted since
+
+    -- the same number, with any length, leaves the whole table
+    pub repeat-adds-none : (p : Asked) → p .number ≡ q .number → step now (Own id (Extend p)) .table ≡ now
+    repeat-adds-none p same =
+        used-leaves now id p
+        (subst (λ (n : ℕ). Holds (Used n) id now) (sym same)
+        (lasts (Used (q .number)) id since granted sized used-now (used-all id (q .number) (history granted since) stays)))
+
+    -- as the last accepted one, with its length, it is answered with the end of now and 1
+    pub last-repeated : NoOther id (q .number) (history granted since) → (i : ℕ) → placeOf now id ≡ some i
+        → step now (Own id (Extend q)) ≡ outcome (Accepted (Extended (trainAt now i .authority .end) true)) now
+    last-repeated other i found =
+        let h = lasts (Last q) id since granted sized last-now (last-all id q (history granted since) stays other) in
+        let here : h .place ≡ i = cc (h .found) in
+        let (above, number, length) = subst (λ (n : ℕ). Last q (trainAt now n)) here (h .so) in
+        let same : now .settings ≡ then .settings = settings-after since granted ∙ settings-step then (Own id (Extend q)) in
+        own-step now id i found (Extend q) _
+        (extension-repeated (now .settings) (limitAt now i) (trainAt now i) q (subst (λ (σ : Settings). Asks σ q) (sym same) asked) above (sym number) (sym length))
+        ∙ ap (outcome (Accepted (Extended (trainAt now i .authority .end) true))) (put-same now i (trainAt now i) refl)

@@ -1,0 +1,103 @@
+-- Document 01, "What is turned down", said a second time of a session: what a line is answered, and the state after it, by what stands in
+-- the line. Which lines can be read at all is said in wire/proofs/RoundTrip and Unique.
+-- Assumes nothing.
+use Prim.Native.Nat.{ℕ}
+use mathlib.Core.Bool.{Bool, true, false}
+use mathlib.Core.List.{List, [], _∷_, _++_}
+use lib.ListN.{replicate}
+use mathlib.Core.Path.{_≡_, refl, ap, _∙_}
+use Rattle.logic.proofs.Tests.{by-test}
+use Rattle.calls.specs.declared.Opening.{Opening}
+use Rattle.calls.specs.declared.Call.{Call}
+use Rattle.calls.specs.declared.Request.the-variants.{Open, OnTable}
+use Rattle.calls.specs.declared.RequestRead.{RequestRead}
+use Rattle.calls.specs.declared.RequestRead.the-variants.{Read, Unreadable}
+use Rattle.calls.specs.Answers.{numbers, numbersOf}
+use Rattle.train.specs.Ranges.{settingsInRange, settingsOf}
+use Rattle.train.proofs.Sentences.{Offers}
+use Rattle.table.specs.declared.Table.{Table}
+use Rattle.table.specs.Table.{emptyTable}
+use Rattle.line.specs.Decide.{decideOn}
+use Rattle.line.specs.Step.{step}
+use Rattle.line.proofs.Steps.{open-taken, open-refused}
+use Rattle.line.proofs.Rules.{refusal-keeps, open-3, open-accepted}
+use Rattle.wire.specs.Format.{lineRead, left, text, textOf, answerText}
+use Rattle.stream.specs.declared.Session.{Session}
+use Rattle.stream.specs.declared.Reply.{Reply}
+use Rattle.stream.specs.Session.{session, lineDecision, answered}
+use Rattle.stream.specs.Input.{outputLine, lastAnswer}
+use Rattle.stream.proofs.Safe.{repliedTo}
+
+-- a refusal with this number: zeros, and the session as it was
+abbrev refusal : ℕ → Session → Reply
+refusal n s = record { answer = numbers n 0 0 0; session = s }
+
+module _ (l : List ℕ) (t : Table) where
+  answered-as : (s : Session) (r : RequestRead) → lineRead l ≡ r → answered s l ≡ repliedTo s r
+  answered-as s r e = ap (repliedTo s) e
+
+  -- 1 "line unreadable"
+  pub line-1 : (b : Bool) → lineRead l ≡ Unreadable → answered (session b t) l ≡ refusal 1 (session b t)
+  unfolding lineDecision
+  line-1 true e = answered-as (session true t) Unreadable e
+  line-1 false e = answered-as (session false t) Unreadable e
+
+  -- 2 "call before an accepted opening"
+  pub line-2 : (c : Call) → lineRead l ≡ Read (OnTable c) → answered (session false t) l ≡ refusal 2 (session false t)
+  unfolding lineDecision
+  line-2 c e = answered-as (session false t) _ e
+
+  -- 2 "or an opening after one"
+  pub line-2-again : (o : Opening) → lineRead l ≡ Read (Open o) → answered (session true t) l ≡ refusal 2 (session true t)
+  unfolding lineDecision
+  line-2-again o e = answered-as (session true t) _ e
+
+  -- 3 "a setting out of range"
+  pub line-3 : (o : Opening) → lineRead l ≡ Read (Open o) → (Offers o → ⊥) → answered (session false t) l ≡ refusal 3 (session false t)
+  unfolding lineDecision decideOn
+  line-3 o e out = answered-as (session false t) _ e ∙ (rw (open-3 o out))
+
+  -- an accepted opening: from then on the session is open, with a table of these settings and no train
+  pub line-opens : (o : Opening) → lineRead l ≡ Read (Open o) → Offers o
+      → answered (session false t) l ≡ record { answer = numbers 0 0 0 0; session = session true (emptyTable (settingsOf o)) }
+  unfolding lineDecision decideOn
+  line-opens o e offers = answered-as (session false t) _ e ∙ (rw (open-accepted o offers))
+
+  -- after it a call is answered as on its table, and leaves the table that it leaves there
+  pub line-called : (c : Call) → lineRead l ≡ Read (OnTable c)
+      → answered (session true t) l ≡ record { answer = numbersOf (step t c .answer); session = session true (step t c .table) }
+  unfolding lineDecision step
+  line-called c e = answered-as (session true t) _ e
+
+  -- "A refusal gives its number and zeros; the whole table stays": whatever stands in the line, and in every state
+  abbrev Leaves : Session → Reply → Type 0
+  Leaves s r = (r .answer .number ≡ 0 → ⊥) → r ≡ refusal (r .answer .number) s
+
+  pub refusal-leaves : (b : Bool) → Leaves (session b t) (answered (session b t) l)
+  unfolding lineDecision decideOn step
+  refusal-leaves b = go b (lineRead l)
+    where
+      go : (b : Bool) (r : RequestRead) → Leaves (session b t) (repliedTo (session b t) r)
+      go true Unreadable refuses = refl
+      go false Unreadable refuses = refl
+      go true (Read (Open o)) refuses = refl
+      go false (Read (OnTable c)) refuses = refl
+      go false (Read (Open o)) refuses =
+          by-test (settingsInRange o)
+          (λ e. absurd (refuses (rw (open-taken o e))))
+          (λ e. rw (open-refused o e))
+      go true (Read (OnTable c)) refuses =
+          let (zeros, stays) = refusal-keeps t c refuses in
+          λ z. record { answer = zeros z; session = session true (stays z) }
+
+-- "a last line without its line feed is answer 1": whatever stands in it. Where nothing follows the last line feed, nothing is answered.
+abbrev zero : List ℕ
+zero = replicate 13 32 ++ (48 ∷ [])
+
+pub unfinished-1 : (b : ℕ) (bs : List ℕ) → lastAnswer (b ∷ bs) ≡ 32 ∷ 49 ∷ (zero ++ (zero ++ (zero ++ (10 ∷ []))))
+unfolding lastAnswer outputLine answerText textOf text left
+unfinished-1 b bs = refl
+
+pub nothing-unfinished : lastAnswer [] ≡ []
+unfolding lastAnswer
+nothing-unfinished = refl
