@@ -30,3 +30,16 @@ pub mod session;
 pub mod spoil;
 pub mod train;
 pub mod wire;
+
+use std::process::ExitCode;
+
+/// How a test program ends: what went wrong goes to standard error.
+pub fn ended(result: Result<(), String>) -> ExitCode {
+    match result {
+        Ok(()) => ExitCode::SUCCESS,
+        Err(message) => {
+            eprintln!("{message}");
+            ExitCode::FAILURE
+        }
+    }
+}

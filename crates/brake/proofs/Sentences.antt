@@ -1,12 +1,12 @@
 -- Document 01, "Line and consist", said a second time: in products and comparisons, where the definitions divide and choose.
 -- A definition that is wrong, with code that follows it, is refused here.
 -- Assumes nothing.
-use Prim.Native.Nat.{ℕ, _+_, _-_, _*_, _/_, _≤_, _<_}
+use Prim.Native.Nat.{ℕ, _+_, _*_, _/_, _≤_}
 use mathlib.Core.Bool.{true}
 use mathlib.Core.Logic.{by-cases, _↔_}
 use mathlib.Core.Path.{_≡_, refl, _∙_, subst}
 use native.Mathlib.Decide.{ℕ-discrete}
-use native.Mathlib.Nat.{div-mul-le-self, lt-of-mul-lt-mul-right, lt-div-mul-add, div-eq-of-lt-le}
+use native.Mathlib.Nat.{div-eq-of-lt-le}
 use native.Mathlib.Omega.{arith}
 use lib.Dec.{lit<}
 use Rattle.brake.specs.declared.Figures.{Figures}
@@ -16,24 +16,9 @@ use Rattle.brake.specs.declared.FiguresFound.the-variants.{Given, NoFigu
 use Rattle.brake.specs.Consist.{carOf, fullBrake, applicationTime, applicationCycles, brakeCycles, figuresWith, figuresOf}
 use Rattle.brake.proofs.Consist.{car-loaded, car-empty, car-unknown, car-none, car-bounds, cycles-positive, figures-out, figures-none, figures-given}
 use Rattle.logic.proofs.Tests.{by-test}
-use Rattle.logic.specs.Rounding.{ceilDiv}
-use Rattle.logic.proofs.Rounding.{ceil-le, ceil-ge}
+use Rattle.logic.proofs.Rounding.{RoundedDown, RoundedUp, rounded-down, rounded-up, rounded-once}
 use Rattle.ranges.specs.Ranges.{lengthInRange}
 use Rattle.ranges.proofs.Sentences.{train-length}
-
--- ---- rounding
-
--- q is a / b, rounded down
-pub record RoundedDown (q a b : ℕ) : Type 0 where
-  pub within : q * b ≤ a
-  pub next-exceeds : a < (q + 1) * b
-
--- q is a / b, rounded up
-pub record RoundedUp (q a b : ℕ) : Type 0 where
-  pub enough : a ≤ q * b
-  pub no-more : q * b < a + b
-
--- ---- the consist
 
 -- "The load class alone decides force and mass per car: 1 loaded, 35,750 and 263,000; 2 empty, 10,575 and 64,000; 3 unknown,
 -- 23,338 and 263,000."
@@ -73,24 +58,6 @@ rated : {load force mass : ℕ} → PerCar load force mass → carOf load ≡ Ra
 rated loaded = car-loaded 1 refl
 rated empty = car-empty 2 refl
 rated unknown = car-unknown 3 refl
-
-rounded-down : (a b : ℕ) → 0 < b → RoundedDown (a / b) a b
-rounded-down a b positive =
-    let below = div-mul-le-self a b in
-    let above = lt-div-mul-add {a = a} positive in
-    record { within = below; next-exceeds = omega arith }
-
-pub rounded-up : (a b : ℕ) → 0 < b → RoundedUp (ceilDiv a b) a b
-unfolding ceilDiv
-rounded-up a b positive =
-    let below = div-mul-le-self (a + (b - 1)) b in
-    record { enough = ceil-ge a positive; no-more = omega arith }
-
-pub rounded-once : (q a b : ℕ) → 0 < b → RoundedUp q a b → ceilDiv a b ≡ q
-rounded-once q a b positive h =
-    let least = ceil-le q positive (h .enough) in
-    let most : q < ceilDiv a b + 1 = lt-of-mul-lt-mul-right b (let reached = ceil-ge a positive in omega arith) in
-    omega arith
 
 -- what a car of the list and a length in range give
 given : {load l force mass : ℕ} → 1 ≤ l → l ≤ 10000 → PerCar load force mass → figuresOf load l ≡ Given (figuresWith force mass l)

@@ -10,9 +10,8 @@ use native.Mathlib.Omega.{arith}
 use lib.Dec.{leb}
 use borrow.Author.Tests.{le-leb, lt-leb, eqb-true, eq-eqb, ne-eqb}
 use Rattle.brake.specs.declared.Figures.{Figures}
-use Rattle.brake.proofs.Sentences.{rounded-once}
 use Rattle.logic.specs.Rounding.{ceilDiv}
-use Rattle.logic.proofs.Rounding.{ceil-le, ceil-mono}
+use Rattle.logic.proofs.Rounding.{ceil-le, ceil-mono, rounded-once}
 use Rattle.logic.proofs.Tests.{by-test, not-both}
 use Rattle.motion.specs.Motion.{brakeTravel, brakeSpeed, nextLevel, driveTravel, driveSpeed, stands}
 use Rattle.motion.proofs.Sentences.{braked-on, braked-last}

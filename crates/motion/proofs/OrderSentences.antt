@@ -11,8 +11,8 @@ use lib.Dec.{leb}
 use borrow.Author.Tests.{le-leb, leb-true, ne-eqb}
 use Rattle.brake.specs.declared.Figures.{Figures}
 use Rattle.brake.specs.Consist.{Sound}
-use Rattle.brake.proofs.Sentences.{RoundedUp, rounded-once}
 use Rattle.logic.proofs.Tests.{by-test, both, not-both}
+use Rattle.logic.proofs.Rounding.{RoundedUp, rounded-once}
 use Rattle.motion.specs.declared.Motion.{Motion}
 use Rattle.motion.specs.declared.Limits.{Limits}
 use Rattle.motion.specs.declared.Order.the-variants.{Drive, Brake}

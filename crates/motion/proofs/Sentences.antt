@@ -7,7 +7,7 @@ use mathlib.Core.Path.{_≡_, refl}
 use native.Mathlib.Omega.{arith}
 use borrow.Author.Tests.{le-leb, lt-leb}
 use Rattle.brake.specs.declared.Figures.{Figures}
-use Rattle.brake.proofs.Sentences.{RoundedUp, rounded-up}
+use Rattle.logic.proofs.Rounding.{RoundedUp, rounded-up}
 use Rattle.motion.specs.declared.Motion.{Motion}
 use Rattle.motion.specs.declared.Order.the-variants.{Drive, Brake}
 use Rattle.motion.specs.Motion.{brakeTravel, brakeSpeed, nextLevel, driveTravel, driveSpeed}

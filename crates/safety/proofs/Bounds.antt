@@ -34,7 +34,7 @@ use Rattle.train.specs.Acts.{callBackAllowed}
 use Rattle.line.specs.Step.{outcome, openStep}
 use Rattle.line.proofs.Steps.{open-made}
 use Rattle.train.proofs.Checks.{allowed-no-worse}
-use Rattle.train.proofs.Sentences.{settings-exactly}
+use Rattle.train.proofs.Sentences.{settings-exactly, call-back-tested}
 use Rattle.safety.specs.History.{history, after, Told, told}
 use Rattle.safety.specs.Claim.{recordOf}
 use Rattle.safety.proofs.Train.{Guarded, guarded-head}
@@ -87,8 +87,7 @@ module _ (σ : Settings) (ρ : InRange σ) (limit : Limit) (x : Train) (t : OnTr
       (λ e. rw (track-computable, e))
 
   track-call-back : (place : ℕ) → callBackAllowed x place ≡ between (reachOf x) (x .authority .end) place
-  unfolding callBackAllowed
-  track-call-back place = rw track-computable
+  track-call-back place = call-back-tested x place track-computable
 
 -- ---- all trains
 

@@ -1,6 +1,6 @@
 -- Every call, refused or not, keeps the invariant of a table under its history; so every list of calls does.
 -- Assumes nothing.
-use Prim.Native.Nat.{ℕ, _<_}
+use Prim.Native.Nat.{ℕ}
 use mathlib.Core.Bool.{true}
 use mathlib.Core.Option.{none, some}
 use mathlib.Core.List.{List, [], _∷_, foldl, map-append}
@@ -9,7 +9,7 @@ use native.Mathlib.Nat.{le-refl}
 use native.Mathlib.Omega.{arith}
 use lib.Dec.{leb}
 use lib.ListN.{length}
-use borrow.Author.Tests.{eq-eqb, leb-true, leb-false, not-false}
+use borrow.Author.Tests.{eq-eqb, leb-true, not-false}
 use Rattle.logic.proofs.Tests.{both}
 use Rattle.brake.specs.declared.Figures.{Figures}
 use Rattle.brake.specs.declared.FiguresFound.the-variants.{Given}
@@ -39,13 +39,13 @@ use Rattle.train.proofs.Track.{limit-tested}
 use Rattle.train.proofs.Checks.{first-leaves}
 use Rattle.table.specs.declared.Table.{Table}
 use Rattle.table.specs.declared.Change.the-variants.{Put, Add, DropFirst}
-use Rattle.table.specs.Table.{places, emptyTable, placeOf, trainAt, limitAt}
+use Rattle.table.specs.Table.{emptyTable, placeOf, trainAt, limitAt}
 use Rattle.table.proofs.Places.{found-below, not-found}
 use Rattle.table.proofs.Trains.{sized-empty, line-with, sized-with, line-last, sized-last, line-without-first, sized-without-first}
 use Rattle.line.specs.declared.Decision.{Decision}
 use Rattle.line.specs.Decide.{accepted, enterChecks, rulingAt, decideOn}
 use Rattle.line.specs.Step.{outcome, carriedOut, openStep, step}
-use Rattle.line.proofs.Steps.{any-call, open-made}
+use Rattle.line.proofs.Steps.{any-call, enter-room, open-made}
 use Rattle.safety.specs.History.{Event, history, after, isAccepted, Told, toldEntering, toldCall, toldBy, told}
 use Rattle.safety.specs.Claim.{recordOf}
 use Rattle.safety.proofs.Train.{guarded-entering}
@@ -99,7 +99,7 @@ module _ (σ : Settings) (xs : List Told) (t : Table) (A : Agrees σ xs t) where
       let fresh = passed _ _ _ (passed _ _ _ q .1) in
       let room = passed _ _ _ (fresh .1) in
       let place = both (leb (stepsOf (e .length)) (e .head)) _ (not-false _ (passed _ _ _ (room .1) .0)) in
-      let free : t .count < places = leb-false places (t .count) (room .0) in
+      let free = enter-room t e q in
       let absent = agrees-absent σ xs t A (e .id) (not-found (placeOf t (e .id)) (fresh .0)) in
       let limit = rw (agrees-limit σ xs t A (t .count) (le-refl _), agrees-count σ xs t A) at (limit-tested (limitAt t (t .count)) (e .head) (place .1)) in
       let v = Entered (k .full) (k .growth) (e .head) in

@@ -3,37 +3,28 @@
 use Prim.Native.Nat.{ℕ, _≤_}
 use mathlib.Core.Bool.{true, false, not}
 use mathlib.Core.Path.{_≡_, refl}
-use lib.Dec.{leb, eqb}
-use borrow.Author.Tests.{leb-true, eqb-true, not-false}
-use Rattle.logic.proofs.Tests.{both}
-use Rattle.ranges.proofs.Ranges.{between-both}
+use borrow.Author.Tests.{not-false}
 use Rattle.motion.proofs.Domination.{NoWorse}
 use Rattle.calls.specs.declared.Reading.{Reading}
 use Rattle.train.specs.declared.Settings.{Settings}
 use Rattle.train.specs.declared.Train.{Train}
-use Rattle.train.specs.Report.{worstOf, reachOf, allowed, motionAfter, computable, reportAllowed}
+use Rattle.train.specs.Report.{worstOf, reachOf, allowed, motionAfter, reportAllowed}
 use Rattle.train.specs.Acts.{callBackAllowed, mayLeave}
+use Rattle.train.proofs.Records.{report-passed}
+use Rattle.train.proofs.Sentences.{report-exactly, call-back-between, leaves-exactly}
 
 pub report-allowed : (σ : Settings) (x : Train) (r : Reading) → not (reportAllowed σ x r) ≡ false → allowed x r ≡ true
-unfolding reportAllowed
-report-allowed σ x r e = both (computable x) (allowed x r) (both _ _ (not-false _ e) .0) .1
+report-allowed σ x r e = report-passed σ x r (not-false _ e) .allows
 
 pub call-back-allowed : (x : Train) (place : ℕ) → not (callBackAllowed x place) ≡ false → (reachOf x ≤ place) × (place ≤ x .authority .end)
-unfolding callBackAllowed
-call-back-allowed x place e = between-both (reachOf x) (x .authority .end) place (both (computable x) _ (not-false _ e) .1)
+call-back-allowed x place e = call-back-between x place (not-false _ e)
 
 pub first-leaves : (i : ℕ) (x : Train) → mayLeave i x ≡ true → i ≡ 0
-unfolding mayLeave
-first-leaves i x e = eqb-true i 0 (both (eqb i 0) _ (both _ _ e .0) .0)
+first-leaves i x e = leaves-exactly i x .0 e .0
 
 module _ (x : Train) (r : Reading) (e : allowed x r ≡ true) where
   pub allowed-head : x .motion .head ≤ r .head
-  unfolding allowed
-  allowed-head = leb-true _ _ (both (leb (x .motion .head) (r .head)) (leb (r .head) (worstOf x .head)) (both _ (leb (r .speed) (worstOf x .speed)) e .0) .0)
+  allowed-head = report-exactly x r .0 e .0
 
   pub allowed-no-worse : NoWorse (motionAfter x r) (worstOf x)
-  unfolding allowed
-  allowed-no-worse =
-      let last = both _ (leb (r .speed) (worstOf x .speed)) e in
-      let first = both (leb (x .motion .head) (r .head)) (leb (r .head) (worstOf x .head)) (last .0) in
-      record { head = leb-true _ _ (first .1); speed = leb-true _ _ (last .1); level = refl }
+  allowed-no-worse = let (onward, near, slow) = report-exactly x r .0 e in record { head = near; speed = slow; level = refl }

@@ -1,5 +1,5 @@
 pub mod Track
 pub mod Records
 pub mod Verdicts
-pub mod Checks
 pub mod Sentences
+pub mod Checks

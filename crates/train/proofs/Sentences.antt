@@ -257,28 +257,28 @@ module _ (σ : Settings) (limit : Limit) (x : Train) (q : Asked) where
 
 -- ---- call back
 
+pub call-back-between : (x : Train) (place : ℕ) → callBackAllowed x place ≡ true → (reachOf x ≤ place) × (place ≤ x .authority .end)
+unfolding callBackAllowed
+call-back-between x place e = between-exactly (reachOf x) (x .authority .end) place .0 (both (computable x) _ e .1)
+
+pub call-back-tested : (x : Train) (place : ℕ) → computable x ≡ true → callBackAllowed x place ≡ between (reachOf x) (x .authority .end) place
+unfolding callBackAllowed
+call-back-tested x place e = rw e
+
 module _ (σ : Settings) (limit : Limit) (x : Train) (place : ℕ) where
   abbrev calling : Verdict
   calling = verdict (decide σ limit x (CallBack place))
-
-  tested : computable x ≡ true → callBackAllowed x place ≡ between (reachOf x) (x .authority .end) place
-  unfolding callBackAllowed
-  tested e = rw e
 
   -- "the end becomes a named place from reach to end, both included"
   pub call-back-moves : computable x ≡ true → reachOf x ≤ place → place ≤ x .authority .end
       → calling
       ≡ Passed Zeros
       (same x (x .motion) (x .order) (record { end = place; start = x .authority .start; number = x .authority .number; asked = x .authority .asked }) (x .marks))
-  call-back-moves computes low high = call-back-taken x place (tested computes ∙ between-exactly _ _ place .1 (low, high))
+  call-back-moves computes low high = call-back-taken x place (call-back-tested x place computes ∙ between-exactly _ _ place .1 (low, high))
 
   -- 14 "place below reach or above end"
   pub call-back-14 : (place < reachOf x) ⊎ (x .authority .end < place) → calling ≡ TurnedDown BadPlace
-  unfolding callBackAllowed
-  call-back-14 h =
-      by-test (callBackAllowed x place)
-      (λ e. let ends = between-exactly (reachOf x) (x .authority .end) place .0 (both (computable x) _ e .1) in absurd (out ends h))
-      (λ e. call-back-refused x place e)
+  call-back-14 h = by-test (callBackAllowed x place) (λ e. absurd (out (call-back-between x place e) h)) (λ e. call-back-refused x place e)
     where
       out : (reachOf x ≤ place) × (place ≤ x .authority .end) → (place < reachOf x) ⊎ (x .authority .end < place) → ⊥
       out ends (inl low) = omega arith

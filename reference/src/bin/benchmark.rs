@@ -3,6 +3,7 @@
 
 use reference::bench::{realistic, worst_bound, worst_free, Measured};
 use reference::compare;
+use reference::ended;
 use std::fs::File;
 use std::path::{Path, PathBuf};
 use std::process::{Command, ExitCode, Stdio};
@@ -55,13 +56,7 @@ const CASES: [Case; 5] = [
 ];
 
 fn main() -> ExitCode {
-    match start() {
-        Ok(()) => ExitCode::SUCCESS,
-        Err(message) => {
-            eprintln!("{message}");
-            ExitCode::FAILURE
-        }
-    }
+    ended(start())
 }
 
 fn start() -> Result<(), String> {

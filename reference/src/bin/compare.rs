@@ -3,6 +3,7 @@
 
 use reference::call::Code;
 use reference::compare::{self, Counts, Failure, ANSWERS};
+use reference::ended;
 use reference::generate;
 use reference::ranges::all_consists;
 use reference::wire::lines;
@@ -23,13 +24,7 @@ struct Options {
 }
 
 fn main() -> ExitCode {
-    match options().and_then(|options| start(&options)) {
-        Ok(()) => ExitCode::SUCCESS,
-        Err(message) => {
-            eprintln!("{message}");
-            ExitCode::FAILURE
-        }
-    }
+    ended(options().and_then(|options| start(&options)))
 }
 
 fn options() -> Result<Options, String> {

@@ -1,6 +1,7 @@
 //! Writes the list of calls with this number of the run with this seed, as
 //! `compare` uses it.
 
+use reference::ended;
 use reference::generate;
 use std::io::{self, Write};
 use std::process::ExitCode;
@@ -8,13 +9,7 @@ use std::process::ExitCode;
 const USAGE: &str = "usage: generate SEED NUMBER";
 
 fn main() -> ExitCode {
-    match start() {
-        Ok(()) => ExitCode::SUCCESS,
-        Err(message) => {
-            eprintln!("{message}");
-            ExitCode::FAILURE
-        }
-    }
+    ended(start())
 }
 
 fn start() -> Result<(), String> {
