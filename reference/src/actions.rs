@@ -1,12 +1,16 @@
 //! Random actions of a scene: calls that fit the table, that just do not fit
 //! it, and that are far off.
 
-use crate::brake::STEPS_PER_FOOT;
+use crate::brake::{FEET_PER_ENTRY, LONGEST_FEET, STEPS_PER_FOOT};
 use crate::call::{Call, Entry};
 use crate::line::{Line, LAST_ID, LAST_NUMBER};
 use crate::scene::Scene;
 use crate::train::Train;
 use crate::wire::WIDEST;
+
+/// The shortest length, and both ends of what the last entry of the brake
+/// shop's sheet is for.
+const SHEET_ENDS: [u64; 3] = [1, LONGEST_FEET - FEET_PER_ENTRY + 1, LONGEST_FEET];
 
 impl Scene {
     /// One action of any kind, for a train on the line or to come.
@@ -211,11 +215,7 @@ impl Scene {
         if self.trains().len() >= self.profile().most_trains && !self.random.once_in(4) {
             return self.run_on();
         }
-        let longest = self.profile().longest_feet;
-        let feet = match self.random.below(4) {
-            0 => longest,
-            _ => self.random.scaled(longest),
-        };
+        let feet = self.length_in_feet();
         let shortest = feet * STEPS_PER_FOOT;
         let limit = self.limit(self.trains().len());
         let head = match self.random.below(10) {
@@ -236,6 +236,22 @@ impl Scene {
             start: self.starting_number(),
         };
         self.enter(entry);
+    }
+
+    /// A length that the scene lets in, often at or beside one for which the
+    /// brake shop's sheet has an entry, or at an end of the sheet.
+    fn length_in_feet(&mut self) -> u64 {
+        let longest = self.profile().longest_feet;
+        let feet = match self.random.below(8) {
+            0 => longest,
+            1 => self.random.pick(&SHEET_ENDS),
+            2..=4 => {
+                let multiple = self.random.scaled(longest).next_multiple_of(FEET_PER_ENTRY);
+                multiple - 1 + self.random.below(3)
+            }
+            _ => self.random.scaled(longest),
+        };
+        feet.clamp(1, longest)
     }
 
     fn starting_number(&mut self) -> u64 {

@@ -2,6 +2,8 @@
 
 pub const LONGEST_FEET: u64 = 10_000;
 pub const STEPS_PER_FOOT: u64 = 6_096_000;
+/// The brake shop's sheet has an entry for every so many feet.
+pub const FEET_PER_ENTRY: u64 = 20;
 
 const GRAVITY: u64 = 980_665;
 const NANOSECONDS_PER_CYCLE: u64 = 100_000_000;
@@ -20,7 +22,7 @@ impl Brake {
             return None;
         }
         let full = full_brake(class)?;
-        let cycles = application_cycles(feet);
+        let cycles = sheet_cycles(feet);
         let growth = full / cycles;
         Some(Brake { full, growth })
     }
@@ -46,7 +48,13 @@ pub fn full_brake(class: u64) -> Option<u64> {
     Some(force * GRAVITY / mass)
 }
 
-/// Cycles until the full brake is reached, for a length in feet.
+/// What the brake shop's sheet has for a length in feet: the formula's cycles at
+/// the next multiple of 20 ft. They are worked out here and read off no table.
+pub fn sheet_cycles(feet: u64) -> u64 {
+    application_cycles(feet.next_multiple_of(FEET_PER_ENTRY))
+}
+
+/// Cycles until the full brake is reached, by the formula.
 pub fn application_cycles(feet: u64) -> u64 {
     let nanoseconds = 12_220_000_000 + 15_600_000 * feet + 278 * feet * feet;
     nanoseconds.div_ceil(NANOSECONDS_PER_CYCLE)

@@ -144,7 +144,12 @@ fn naming_ranges(scene: &mut Scene) {
     }
 }
 
-/// Every consist there is, each entering and taken off again.
+/// Length and load class of every consist there is.
+pub fn consists() -> impl Iterator<Item = (u64, u64)> {
+    (1..=LONGEST_FEET).flat_map(|feet| (1..=3).map(move |class| (feet, class)))
+}
+
+/// Each of them entering and taken off again, after the opening.
 pub fn all_consists() -> Vec<u8> {
     let mut input = Vec::new();
     let settings = Settings {
@@ -154,18 +159,16 @@ pub fn all_consists() -> Vec<u8> {
         traction: 1,
     };
     put_call(Call::Open(settings), &mut input);
-    for feet in 1..=LONGEST_FEET {
-        for class in 1..=3 {
-            let entry = Entry {
-                id: 1,
-                head: LONGEST_LINE,
-                feet,
-                class,
-                start: 0,
-            };
-            put_call(Call::Enter(entry), &mut input);
-            put_call(Call::TakeOff { id: 1 }, &mut input);
-        }
+    for (feet, class) in consists() {
+        let entry = Entry {
+            id: 1,
+            head: LONGEST_LINE,
+            feet,
+            class,
+            start: 0,
+        };
+        put_call(Call::Enter(entry), &mut input);
+        put_call(Call::TakeOff { id: 1 }, &mut input);
     }
     input
 }

@@ -17,15 +17,29 @@ use std::process::{Child, ChildStdin, ChildStdout, Command, Output, Stdio};
 use std::thread;
 use std::time::{Duration, Instant};
 
-const OPENING: &[u8] =
-    b" 1  200000000000    8000000000      26822400          3726             0\n";
-const ENTERING: &[u8] =
-    b" 2             7   14295120000          2345             1             0\n";
-const DONE: &str = " 0             0             0             0\n";
-const ENTERED: &str = " 0        133303           264   14295120000\n";
+/// The worked session: an opening, then a train that enters.
+const CALLS: &[u8] = include_bytes!("../../docs/session/calls.txt");
+const ANSWERS: &[u8] = include_bytes!("../../docs/session/answers.txt");
+const OPENING: &[u8] = CALLS.split_at(CALL_BYTES + 1).0;
+const ENTERING: &[u8] = CALLS.split_at(CALL_BYTES + 1).1.split_at(CALL_BYTES + 1).0;
+const DONE: &str = text(ANSWERS.split_at(ANSWER_BYTES + 1).0);
+const ENTERED: &str = text(
+    ANSWERS
+        .split_at(ANSWER_BYTES + 1)
+        .1
+        .split_at(ANSWER_BYTES + 1)
+        .0,
+);
 const UNREADABLE: &str = " 1             0             0             0\n";
 /// A program that hangs must not hang the tests.
 const PATIENCE: Duration = Duration::from_secs(20);
+
+const fn text(bytes: &[u8]) -> &str {
+    match std::str::from_utf8(bytes) {
+        Ok(text) => text,
+        Err(_) => panic!("answers are text"),
+    }
+}
 
 /// A running program with both of its ends.
 struct Running {

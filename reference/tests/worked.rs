@@ -1,6 +1,6 @@
-//! The worked list. The checker has computed it from the page in
-//! `crates/session/specs/Worked.antt`; the gate runs the program on the files.
-//! Both have to be the same list.
+//! The worked list and the worked session. The checker has computed them from
+//! the pages in `crates/session/specs`; the gate runs the program on the files.
+//! Page and files have to be the same.
 
 use std::fs;
 use std::path::PathBuf;
@@ -15,9 +15,9 @@ fn of_crate(file: &str) -> String {
     fs::read_to_string(&path).unwrap_or_else(|error| panic!("{}: {error}", path.display()))
 }
 
-/// The input lines and the answers on the page, in order.
-fn page() -> Vec<(String, String)> {
-    of_crate("specs/Worked.antt")
+/// The input lines and the answers on a page, in order.
+fn page(file: &str) -> (Vec<String>, Vec<String>) {
+    of_crate(file)
         .lines()
         .filter_map(|line| {
             let texts: Vec<&str> = line.split('"').collect();
@@ -26,13 +26,26 @@ fn page() -> Vec<(String, String)> {
                 _ => None,
             }
         })
-        .collect()
+        .unzip()
+}
+
+#[test]
+fn session_is_its_page() {
+    let (inputs, answers) = page("specs/Paper.antt");
+    let printed = |lines: Vec<String>| lines.join("\n") + "\n";
+    assert_eq!(
+        printed(inputs),
+        include_str!("../../docs/session/calls.txt")
+    );
+    assert_eq!(
+        printed(answers),
+        include_str!("../../docs/session/answers.txt")
+    );
 }
 
 #[test]
 fn files_are_the_page() {
-    let page = page();
-    let (inputs, answers): (Vec<String>, Vec<String>) = page.into_iter().unzip();
+    let (inputs, answers) = page("specs/Worked.antt");
     assert!(inputs.len() > 300, "{} lines on the page", inputs.len());
     // The last line has no line feed.
     assert_eq!(of_crate("stdin"), inputs.join("\n"));

@@ -1,6 +1,6 @@
 -- Laws of the brake figures.
 -- Assumes nothing.
-use Prim.Native.Nat.{ℕ, _+_, _*_, _^_, _≤_, _<_}
+use Prim.Native.Nat.{ℕ, _+_, _*_, _≤_, _<_}
 use mathlib.Core.Bool.{true, false}
 use mathlib.Core.Logic.{by-cases}
 use mathlib.Core.Path.{_≡_, refl, sym, _∙_, ap, subst}
@@ -13,7 +13,8 @@ use Rattle.brake.specs.declared.Figures.{Figures}
 use Rattle.brake.specs.declared.CarFound.{CarFound}
 use Rattle.brake.specs.declared.CarFound.the-variants.{Rated, NoClass}
 use Rattle.brake.specs.declared.FiguresFound.the-variants.{Given, NoFigures}
-use Rattle.brake.specs.Consist.{greatestFull, Sound, carOf, fullBrake, applicationTime, applicationCycles, brakeCycles, figuresWith, figuresBy, figuresOf}
+use Rattle.brake.specs.Consist.{greatestFull, Sound, carOf, fullBrake, applicationTime, applicationCycles, sheetEntry, entryFor, brakeCycles, figuresWith, figuresBy, figuresOf}
+use Rattle.logic.specs.Rounding.{ceilDiv}
 use Rattle.logic.proofs.Tests.{by-test}
 use Rattle.logic.proofs.Rounding.{ceil-le, ceil-positive}
 use Rattle.ranges.specs.Ranges.{greatestLength, lengthInRange}
@@ -72,21 +73,25 @@ car-bounds n e = subst IsCar e (is-car n)
 
 -- ---- cycles
 
-time-most : (l : ℕ) → l ≤ greatestLength → applicationTime l ≤ 1961 * 100000000
-unfolding applicationTime
-time-most l h = let m = mul-le-mul h h in omega arith
+formula-most : (l : ℕ) → l ≤ greatestLength → applicationCycles l ≤ 1961
+unfolding applicationCycles applicationTime
+formula-most l h = let m = mul-le-mul h h in ceil-le 1961 (lit< tt) (omega arith)
 
-pub time-fits : (l : ℕ) → l < 2 ^ 16 → applicationTime l < 2 ^ 42
-unfolding applicationTime
-time-fits l h = let n : l ≤ 65535 = omega arith in let m = mul-le-mul n n in omega arith
+pub formula-positive : (l : ℕ) → 1 ≤ applicationCycles l
+unfolding applicationCycles applicationTime
+formula-positive l = ceil-positive (omega arith) (lit< tt)
+
+entry-within : (l : ℕ) → l ≤ greatestLength → entryFor l ≤ 500
+unfolding entryFor ceilDiv
+entry-within l h = omega arith
 
 cycles-most : (l : ℕ) → l ≤ greatestLength → brakeCycles l ≤ 1961
-unfolding brakeCycles applicationCycles
-cycles-most l h = ceil-le 1961 (lit< tt) (time-most l h)
+unfolding brakeCycles sheetEntry
+cycles-most l h = formula-most (20 * entryFor l) (omega (arith, entry-within l h))
 
 pub cycles-positive : (l : ℕ) → 1 ≤ brakeCycles l
-unfolding brakeCycles applicationCycles applicationTime
-cycles-positive l = ceil-positive (omega arith) (lit< tt)
+unfolding brakeCycles sheetEntry
+cycles-positive l = formula-positive (20 * entryFor l)
 
 -- ---- figures
 

@@ -30,10 +30,17 @@ applicationTime l = 12220000000 + 15600000 * l + 278 * (l * l)
 unfoldable pub applicationCycles : ℕ → ℕ
 applicationCycles l = ceilDiv (applicationTime l) 100000000
 
--- cycles that an entering train's growth is worked out with. A name of its own: the brake shop may come to read them off
--- a sheet, and the formula stays.
+-- entry k of the brake shop's sheet (document 02, (i)), for 20×k ft: from 0 to 10,000 ft there are 501
+unfoldable pub sheetEntry : ℕ → ℕ
+sheetEntry k = applicationCycles (20 * k)
+
+-- the entry that a length takes: that of the next multiple of 20 at or above it
+unfoldable pub entryFor : ℕ → ℕ
+entryFor l = ceilDiv l 20
+
+-- cycles that an entering train's growth is worked out with
 unfoldable pub brakeCycles : ℕ → ℕ
-brakeCycles l = applicationCycles l
+brakeCycles l = sheetEntry (entryFor l)
 
 -- full brake B and growth j of a car and a length
 unfoldable pub figuresWith : ℕ → ℕ → ℕ → Figures

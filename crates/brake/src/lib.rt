@@ -1,6 +1,10 @@
 // The brake figures of a consist: document 01, "Line and consist".
+ghost use Prim.Native.Nat.{_≤_, _<_};
 ghost use mathlib.Core.Path.{_≡_};
-ghost use Rattle.brake.specs.Consist.{carOf, applicationTime, brakeCycles, figuresOf};
+ghost use Rattle.ranges.specs.Ranges.{greatestLength};
+ghost use Rattle.brake.specs.Consist.{carOf, sheetEntry, brakeCycles, figuresOf};
+
+mod sheet;
 
 // Full brake of class 2, the highest of the three.
 pub const GREATEST_FULL: u64 = 162039;
@@ -35,19 +39,21 @@ fn car_of(load: u64) -> CarFound
     }
 }
 
-// Application time in nanoseconds of a length in feet. No length of 16 bits overflows.
-fn application_time(length: u16) -> u64
-    ensures { λ r. ⌜ r ≡ applicationTime length ⌝ }
+// An entry of the brake shop's sheet. Document 02, (i): "Build the sheet in as a constant table".
+fn sheet_entry(entry: usize) -> u64
+    requires { ⌜ entry < 501 ⌝ }
+    ensures { λ r. ⌜ r ≡ sheetEntry entry ⌝ }
 {
-    let l = length as u64;
-    12220000000 + 15600000 * l + 278 * (l * l)
+    sheet::SHEET[entry]
 }
 
-// Cycles until the brake is full, rounded up: a cycle of 100 ms that the brake still grows in counts whole.
-fn brake_cycles(length: u16) -> u64
+// Cycles until the brake is full. A length between two multiples of 20 ft takes the entry of the longer one, so that no brake is taken for
+// quicker than it is.
+fn brake_cycles(length: u64) -> u64
+    requires { ⌜ length ≤ greatestLength ⌝ }
     ensures { λ r. ⌜ r ≡ brakeCycles length ⌝ }
 {
-    (application_time(length) + 99999999) / 100000000
+    sheet_entry(((length + 19) / 20) as usize)
 }
 
 // The figures that a train enters with, or none for a load class or a length out of range.
@@ -61,7 +67,7 @@ pub fn figures_of(load: u64, length: u64) -> FiguresFound
         CarFound::Rated(force, mass) => {
             // Standard gravity, 9.80665 m/s², is 980,665 µm/s in a cycle.
             let full = force * 980665 / mass;
-            let cycles = brake_cycles(length as u16);
+            let cycles = brake_cycles(length);
             FiguresFound::Given(Figures {
                 full: full,
                 growth: full / cycles,

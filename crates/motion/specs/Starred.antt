@@ -1,13 +1,14 @@
--- Document 01's starred values: what the definitions give beside what the paper prints (proofs/Starred: starred). Then values that the
--- paper does not print, beside what another program works out from its formulas (proofs/Starred: worked).
-use Prim.Native.Nat.{ℕ, _+_}
+-- Document 01's starred values, with the cap as document 02, (i), has it worked out again: what the definitions give beside what the papers
+-- print (proofs/Starred: starred). Then values that the papers do not print, beside what another program works out from their formulas
+-- (proofs/Starred: worked).
+use Prim.Native.Nat.{ℕ, _+_, _*_}
 use mathlib.Core.Bool.{Bool, true, _&&_}
 use mathlib.Core.List.{List, [], _∷_}
 use lib.Dec.{eqb}
 use Rattle.brake.specs.declared.Figures.{Figures}
 use Rattle.brake.specs.declared.FiguresFound.{FiguresFound}
 use Rattle.brake.specs.declared.FiguresFound.the-variants.{Given, NoFigures}
-use Rattle.brake.specs.Consist.{applicationCycles, figuresOf}
+use Rattle.brake.specs.Consist.{applicationCycles, sheetEntry, entryFor, brakeCycles, figuresOf}
 use Rattle.motion.specs.declared.Motion.{Motion}
 use Rattle.motion.specs.declared.Limits.{Limits}
 use Rattle.motion.specs.declared.Order.{Order}
@@ -41,9 +42,13 @@ abbrev pub isGiven : FiguresFound → ℕ
 isGiven (Given k) = 1
 isGiven NoFigures = 0
 
--- figures, settings and entering of the worked session
+-- the figures of the starred stop travels: the growth is the formula's
 abbrev pub loaded : Figures
 loaded = record { full = 133303; growth = 264 }
+
+-- figures, settings and entering of the worked session: the growth is the sheet's
+abbrev pub sheeted : Figures
+sheeted = record { full = 133303; growth = 263 }
 
 abbrev pub limits : Limits
 limits = record { ceiling = 26822400; traction = 3726 }
@@ -64,15 +69,17 @@ starredValues =
     ∷ row (stoppingDistance loaded 100 0) 238
     ∷ row (stoppingDistance loaded 264 0) 792
     ∷ row (stoppingDistance loaded 265 0) 797
-    ∷ row (orderNumber (orderFor loaded limits (entered .head + 20000) entered)) 1
-    ∷ row (orderCap (orderFor loaded limits (entered .head + 20000) entered)) 2537
+    ∷ row (orderNumber (orderFor sheeted limits (entered .head + 20000) entered)) 1
+    ∷ row (orderCap (orderFor sheeted limits (entered .head + 20000) entered)) 2534
     ∷ row (isGiven (figuresOf 1 0)) 0
     ∷ row (isGiven (figuresOf 1 10001)) 0
     ∷ row (isGiven (figuresOf 0 2345)) 0
     ∷ row (isGiven (figuresOf 4 2345)) 0
-    -- not starred: the count's example, and the growth that the session's entering shows
-    ∷ row (1 + cyclesToStand loaded 26822400) 708
-    ∷ row (growthGiven (figuresOf 1 2345)) 264
+    -- not starred: the count's example, and what 2,345 ft reads off the sheet, with the growth that the session's entering shows
+    ∷ row (1 + cyclesToStand sheeted 26822400) 710
+    ∷ row (20 * entryFor 2345) 2360
+    ∷ row (brakeCycles 2345) 506
+    ∷ row (growthGiven (figuresOf 1 2345)) 263
     ∷ []
 
 -- a moving train; B/2 is between levels 66651 and 66652
@@ -96,12 +103,20 @@ ordered ceiling goal number cap rows =
 
 abbrev pub workedValues : List Row
 workedValues =
-    -- growth, B over the cycles. At 5 ft and 9,999 ft an application time of 12.23 s would give 1,075 and 67.
-    row (growthGiven (figuresOf 1 1)) 1083
-    ∷ row (growthGiven (figuresOf 1 5)) 1083
-    ∷ row (growthGiven (figuresOf 1 9999)) 68
-    ∷ row (growthGiven (figuresOf 1 10000)) 67
-    ∷ row (growthGiven (figuresOf 2 1)) 1317
+    -- cycles at and beside multiples of 20 ft, and at both ends of the sheet. At 120 ft an application time of 12.23 s would give 142.
+    row (sheetEntry 0) 123
+    ∷ row (brakeCycles 1) 126
+    ∷ row (brakeCycles 20) 126
+    ∷ row (brakeCycles 21) 129
+    ∷ row (brakeCycles 120) 141
+    ∷ row (brakeCycles 9980) 1956
+    ∷ row (brakeCycles 9981) 1961
+    ∷ row (brakeCycles 10000) 1961
+    -- growth, B over the cycles
+    ∷ row (growthGiven (figuresOf 1 1)) 1057
+    ∷ row (growthGiven (figuresOf 1 9980)) 68
+    ∷ row (growthGiven (figuresOf 1 9981)) 67
+    ∷ row (growthGiven (figuresOf 2 1)) 1286
     ∷ row (growthGiven (figuresOf 3 10000)) 44
     -- 2×v + c, v + c, 0
     ∷ cycle (moving 200000 66000) (Drive 3000) 1403000 203000 0 12221269

@@ -7,7 +7,7 @@ use native.Mathlib.Omega.{arith}
 use Rattle.logic.specs.Rounding.{ceilDiv}
 use Rattle.logic.proofs.Tests.{not-both}
 use Rattle.ranges.specs.Ranges.{between}
-use Rattle.brake.specs.Consist.{carOf, fullBrake, applicationTime, applicationCycles, brakeCycles, figuresWith, figuresBy, figuresOf}
+use Rattle.brake.specs.Consist.{carOf, fullBrake, applicationTime, applicationCycles, sheetEntry, entryFor, brakeCycles, figuresWith, figuresBy, figuresOf}
 use Rattle.motion.specs.Motion.{nextLevel, stands}
 use Rattle.motion.specs.Count.{cyclesToStand}
 use Rattle.motion.specs.Starred.{fullGiven}
@@ -16,7 +16,7 @@ use Rattle.safety.specs.History.{isAccepted, toldAct, toldCall, toldBy, 
 use Rattle.safety.specs.Claim.{Claim}
 use Rattle.safety.specs.Worked.{sessionLine, loadedEnters, heldCount, headPastEnd, endTooNear, endOffTheLine, overlapOfTwo, heldAndMoving, figuresMadeUp}
 
-pub counted : heldCount (told (loadedEnters ∷ [])) ≡ 708
+pub counted : heldCount (told (loadedEnters ∷ [])) ≡ 710
 unfolding ceilDiv cyclesToStand isAccepted toldCall toldBy told
 counted = refl
 
@@ -42,8 +42,8 @@ overlap-refuted claim = not-above 20000000000 (claim .2 .1 .0)
 
 pub held-refuted : Claim sessionLine heldAndMoving → ⊥
 unfolding Claim ceilDiv cyclesToStand isAccepted toldAct toldCall toldBy told nextLevel stands
-held-refuted claim = not-both (claim .0 .held-stands 708 refl (omega arith)) refl
+held-refuted claim = not-both (claim .0 .held-stands 710 refl (omega arith)) refl
 
 pub figures-refuted : Claim sessionLine figuresMadeUp → ⊥
-unfolding Claim isAccepted toldCall toldBy told ceilDiv between carOf fullBrake applicationTime applicationCycles brakeCycles figuresWith figuresBy figuresOf
+unfolding Claim isAccepted toldCall toldBy told ceilDiv between carOf fullBrake applicationTime applicationCycles sheetEntry entryFor brakeCycles figuresWith figuresBy figuresOf
 figures-refuted claim = let full : _≡_ {A = ℕ} 87021 133303 = ap fullGiven (claim .0 .consist) in omega arith

@@ -1,9 +1,9 @@
--- The worked examples are what the definitions give: computed.
+-- The words of the worked list are what the definitions give: computed.
 -- Assumes nothing.
 use mathlib.Core.Path.{_≡_, refl}
 use Rattle.logic.specs.Rounding.{ceilDiv}
 use Rattle.ranges.specs.Ranges.{between}
-use Rattle.brake.specs.Consist.{carOf, fullBrake, applicationTime, applicationCycles, brakeCycles, figuresWith, figuresBy, figuresOf}
+use Rattle.brake.specs.Consist.{carOf, fullBrake, applicationTime, applicationCycles, sheetEntry, entryFor, brakeCycles, figuresWith, figuresBy, figuresOf}
 use Rattle.motion.specs.Motion.{brakeTravel, brakeSpeed, nextLevel, driveTravel, driveSpeed, stands, brakedCycle, firstCycles, enoughCycles, brakedRun, totalTravel, stoppingDistance}
 use Rattle.motion.specs.Orders.{stoppingPlace, capFits, greatest, orderFor}
 use Rattle.motion.specs.Bounds.{inBounds}
@@ -16,8 +16,8 @@ use Rattle.table.specs.Table.{placeIn, placeOf, aheadOf}
 use Rattle.line.specs.Decide.{openDecision, enterDecision, actDecision, takeOffDecision, decideOn}
 use Rattle.line.specs.Step.{openStep, step}
 use Rattle.safety.specs.History.{history, isAccepted, toldAct, without, toldCall, toldBy, told, rearOf}
-use Rattle.safety.specs.Worked.{sessionLine, printedBy, sessionCalls, sessionAnswers, wordsAfter, secondCalls, secondWords}
+use Rattle.safety.specs.Worked.{sessionLine, wordsAfter, workedCalls, workedWords}
 
-pub worked : (printedBy sessionLine sessionCalls ≡ sessionAnswers) × (wordsAfter sessionLine secondCalls ≡ secondWords)
-unfolding ceilDiv between carOf fullBrake applicationTime applicationCycles brakeCycles figuresWith figuresBy figuresOf brakeTravel brakeSpeed nextLevel driveTravel driveSpeed stands brakedCycle firstCycles enoughCycles brakedRun totalTravel stoppingDistance stoppingPlace capFits greatest orderFor inBounds firstOf settingsInRange requestInRange stepsOf limitBehind allowed orderAfter reported computable reportAllowed isRepeat extended isOld callBackAllowed mayLeave placeIn placeOf aheadOf openDecision enterDecision actDecision takeOffDecision decideOn openStep step history isAccepted toldAct without toldCall toldBy told rearOf
-worked = (refl, refl)
+pub worked : wordsAfter sessionLine workedCalls ≡ workedWords
+unfolding ceilDiv between carOf fullBrake applicationTime applicationCycles sheetEntry entryFor brakeCycles figuresWith figuresBy figuresOf brakeTravel brakeSpeed nextLevel driveTravel driveSpeed stands brakedCycle firstCycles enoughCycles brakedRun totalTravel stoppingDistance stoppingPlace capFits greatest orderFor inBounds firstOf settingsInRange requestInRange stepsOf limitBehind allowed orderAfter reported computable reportAllowed isRepeat extended isOld callBackAllowed mayLeave placeIn placeOf aheadOf openDecision enterDecision actDecision takeOffDecision decideOn openStep step history isAccepted toldAct without toldCall toldBy told rearOf
+worked = refl

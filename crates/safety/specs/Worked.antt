@@ -1,16 +1,15 @@
--- Worked examples: document 01's session as calls and printed answers, a second list of calls for the words of demand 3 (proofs/Worked:
--- worked), and histories that no controller may have, since the claim does not hold of them (proofs/Refuted).
+-- Worked examples: a list of calls for the words of demand 3 (proofs/Worked: worked), and histories that no controller may have, since the
+-- claim does not hold of them (proofs/Refuted).
 use Prim.Native.Nat.{ℕ}
 use mathlib.Core.Option.{Option, none, some}
 use mathlib.Core.List.{List, [], _∷_, map}
 use lib.ListN.{replicate}
 use Rattle.calls.specs.declared.Opening.{Opening}
 use Rattle.calls.specs.declared.Act.{Act}
-use Rattle.calls.specs.declared.Act.the-variants.{Report, Extend, CallBack, Hold, Lift}
+use Rattle.calls.specs.declared.Act.the-variants.{Report, Extend, Hold, Lift}
 use Rattle.calls.specs.declared.Call.{Call}
 use Rattle.calls.specs.declared.Call.the-variants.{Enter, Own, TakeOff}
-use Rattle.calls.specs.declared.Numbers.{Numbers}
-use Rattle.calls.specs.Answers.{numbers, numbersOf}
+use Rattle.calls.specs.Answers.{numbers}
 use Rattle.line.specs.Step.{openStep}
 use Rattle.safety.specs.History.{Event, history, Told, told, rearOf}
 use Rattle.safety.specs.Claim.{heldReports}
@@ -24,47 +23,14 @@ report h v = Report (record { head = h; speed = v })
 abbrev pub extend : ℕ → ℕ → Act
 extend n l = Extend (record { number = n; length = l })
 
+-- the line of document 01's worked session
 abbrev pub sessionLine : Opening
 sessionLine = record { end = 200000000000; safety = 8000000000; ceiling = 26822400; traction = 3726 }
 
--- the opening's answer and those of the calls after it, as they are printed
-abbrev pub printedBy : Opening → List Call → List Numbers
-printedBy o cs = numbersOf (openStep o .answer) ∷ map (λ (e : Event). e .answer) (history (openStep o .table) cs)
-
--- the session, then the report that is taken and the two call backs
-abbrev pub sessionCalls : List Call
-sessionCalls =
-    enter 7 14295120000 2345 1 0
-    ∷ Own 7 (report 14295120000 0)
-    ∷ Own 7 (extend 1 20000)
-    ∷ Own 7 (extend 1 20000)
-    ∷ Own 7 (report 14295120000 0)
-    ∷ Own 7 (report 14295122538 2537)
-    ∷ Own 7 (report 14295122537 2537)
-    ∷ Own 7 (CallBack 14295139997)
-    ∷ Own 7 (CallBack 14295139998)
-    ∷ []
-
-abbrev pub sessionAnswers : List Numbers
-sessionAnswers =
-    numbers 0 0 0 0
-    ∷ numbers 0 133303 264 14295120000
-    ∷ numbers 0 1 0 14295120000
-    ∷ numbers 0 14295140000 0 0
-    ∷ numbers 0 14295140000 1 0
-    ∷ numbers 0 1 2537 14295139998
-    ∷ numbers 9 0 0 0
-    ∷ numbers 0 2 0 14295139998
-    ∷ numbers 14 0 0 0
-    ∷ numbers 0 0 0 0
-    ∷ []
-
--- ---- the words of a second list
-
 -- Train 7 leaves and enters again: nothing of its first stay counts. Train 9 is held, lifted and held twice: the reports count from the
 -- first hold after the lift. Its taking off (15) and its report beyond the worst case (9) are refused and count nowhere.
-abbrev pub secondCalls : List Call
-secondCalls =
+abbrev pub workedCalls : List Call
+workedCalls =
     enter 7 14295120000 2345 1 0
     ∷ Own 7 Hold
     ∷ Own 7 (report 14295120000 0)
@@ -108,8 +74,8 @@ wordsOf x =
 abbrev pub wordsAfter : Opening → List Call → List Words
 wordsAfter o cs = map wordsOf (told (history (openStep o .table) cs))
 
-abbrev pub secondWords : List Words
-secondWords =
+abbrev pub workedWords : List Words
+workedWords =
     record { id = 7; start = 5; head = 24295120000; speed = 0; rear = 10000000000; end = 24295120000; held = none }
     ∷ record { id = 9; start = 0; head = 1000000000; speed = 0; rear = 390400000; end = 1000000500; held = some 2 }
     ∷ []
@@ -122,9 +88,9 @@ said c a b d = record { call = c; answer = numbers 0 a b d }
 
 -- the session's train
 abbrev pub loadedEnters : Event
-loadedEnters = said (enter 7 14295120000 2345 1 0) 133303 264 14295120000
+loadedEnters = said (enter 7 14295120000 2345 1 0) 133303 263 14295120000
 
--- 1 + 505 + 202
+-- 1 + 507 + 202
 abbrev pub heldCount : List Told → ℕ
 heldCount [] = 0
 heldCount (x ∷ xs) = heldReports sessionLine x
@@ -135,28 +101,28 @@ headPastEnd = loadedEnters ∷ said (Own 7 (report 14295120001 0)) 2 0 142951200
 
 -- the first train, with its rear at 20,000,000,000
 abbrev pub firstEnters : Event
-firstEnters = said (enter 1 34295120000 2345 1 0) 133303 264 34295120000
+firstEnters = said (enter 1 34295120000 2345 1 0) 133303 263 34295120000
 
 -- an end one step nearer to it than the safety distance
 abbrev pub endTooNear : List Event
-endTooNear = firstEnters ∷ said (enter 2 12000000001 100 1 0) 133303 962 12000000001 ∷ []
+endTooNear = firstEnters ∷ said (enter 2 12000000001 100 1 0) 133303 965 12000000001 ∷ []
 
 -- the end of the first train one step beyond the line end
 abbrev pub endOffTheLine : List Event
-endOffTheLine = said (enter 1 200000000001 2345 1 0) 133303 264 200000000001 ∷ []
+endOffTheLine = said (enter 1 200000000001 2345 1 0) 133303 263 200000000001 ∷ []
 
 -- the third train overlaps the first by one step, and not the second
 abbrev pub overlapOfTwo : List Event
 overlapOfTwo =
     firstEnters
-    ∷ said (enter 2 40000000000 100 1 0) 133303 962 40000000000
-    ∷ said (enter 3 20000000001 100 1 0) 133303 962 20000000001
+    ∷ said (enter 2 40000000000 100 1 0) 133303 965 40000000000
+    ∷ said (enter 3 20000000001 100 1 0) 133303 965 20000000001
     ∷ []
 
--- held, it has had 708 reports, and moves
+-- held, it has had 710 reports, and moves
 abbrev pub heldAndMoving : List Event
-heldAndMoving = loadedEnters ∷ said (Own 7 Hold) 0 0 0 ∷ replicate 708 (said (Own 7 (report 14295120000 1)) 2 0 14295120000)
+heldAndMoving = loadedEnters ∷ said (Own 7 Hold) 0 0 0 ∷ replicate 710 (said (Own 7 (report 14295120000 1)) 2 0 14295120000)
 
 -- its figures are those of another class
 abbrev pub figuresMadeUp : List Event
-figuresMadeUp = said (enter 7 14295120000 2345 3 0) 133303 264 14295120000 ∷ []
+figuresMadeUp = said (enter 7 14295120000 2345 3 0) 133303 263 14295120000 ∷ []

@@ -1,11 +1,11 @@
--- The worked list is what the definitions give: computed, part by part, with the trains between two parts.
+-- The worked session and the worked list are what the definitions give: computed, the list part by part, with the trains between two parts.
 -- Assumes nothing.
 use Prim.Native.Nat.{ℕ}
 use mathlib.Core.List.{List, [], _∷_, _++_, append-nil}
 use mathlib.Core.Path.{_≡_, refl, sym, ap, _∙_}
 use Rattle.logic.specs.Rounding.{ceilDiv}
 use Rattle.ranges.specs.Ranges.{between}
-use Rattle.brake.specs.Consist.{carOf, fullBrake, applicationTime, applicationCycles, brakeCycles, figuresWith, figuresBy, figuresOf}
+use Rattle.brake.specs.Consist.{carOf, fullBrake, applicationTime, applicationCycles, sheetEntry, entryFor, brakeCycles, figuresWith, figuresBy, figuresOf}
 use Rattle.motion.specs.Motion.{brakeTravel, brakeSpeed, nextLevel, driveTravel, driveSpeed, stands, brakedCycle, firstCycles, enoughCycles, brakedRun, totalTravel, stoppingDistance}
 use Rattle.motion.specs.Orders.{stoppingPlace, capFits, greatest, orderFor}
 use Rattle.motion.specs.Bounds.{inBounds}
@@ -23,16 +23,24 @@ use Rattle.stream.specs.Session.{closed, lineDecision}
 use Rattle.stream.specs.Input.{lines, rest, after, outputLine, answers, lastAnswer, output, kept}
 use Rattle.stream.proofs.Lines.{Standing, standing, standing-kept, standing-cut}
 use Rattle.stream.proofs.Pieces.{last-kept}
+use Rattle.session.specs.Paper.{paperSession}
 use Rattle.session.specs.Worked.{Exchange, bytesOf, inputOf, outputOf, firstPart, afterFirst, secondPart, afterSecond, thirdPart, unfinished, workedInput, workedOutput}
 
 -- what has been written after lines from the state s on, and how things stand then
 unfoldable ran : Session → List Exchange → Standing
-unfolding ceilDiv between carOf fullBrake applicationTime applicationCycles brakeCycles figuresWith figuresBy figuresOf brakeTravel brakeSpeed nextLevel driveTravel driveSpeed stands brakedCycle firstCycles enoughCycles brakedRun totalTravel stoppingDistance stoppingPlace capFits greatest orderFor inBounds firstOf allZero readAs requestOf settingsInRange requestInRange stepsOf limitBehind allowed orderAfter reported computable reportAllowed isRepeat extended isOld callBackAllowed mayLeave placeIn placeOf aheadOf openDecision enterDecision actDecision takeOffDecision decideOn digit column columns numbersIn lineRead left text textOf answerText lineDecision lines rest after outputLine answers bytesOf inputOf outputOf
+unfolding ceilDiv between carOf fullBrake applicationTime applicationCycles sheetEntry entryFor brakeCycles figuresWith figuresBy figuresOf brakeTravel brakeSpeed nextLevel driveTravel driveSpeed stands brakedCycle firstCycles enoughCycles brakedRun totalTravel stoppingDistance stoppingPlace capFits greatest orderFor inBounds firstOf allZero readAs requestOf settingsInRange requestInRange stepsOf limitBehind allowed orderAfter reported computable reportAllowed isRepeat extended isOld callBackAllowed mayLeave placeIn placeOf aheadOf openDecision enterDecision actDecision takeOffDecision decideOn digit column columns numbersIn lineRead left text textOf answerText lineDecision lines rest after outputLine answers bytesOf inputOf outputOf
 ran s xs = standing s [] [] (inputOf xs)
 
 -- the lines xs, answered as they say from the state s on, leave the state t
 abbrev Ruled : Session → List Exchange → Session → Type 0
 Ruled s xs t = ran s xs ≡ record { session = t; begins = []; written = outputOf xs }
+
+-- document 01's session, from bytes to bytes
+pub worked-session : output (inputOf paperSession) ≡ outputOf paperSession
+unfolding ran lastAnswer
+worked-session = refl
+
+-- ---- the worked list
 
 first : Ruled closed firstPart afterFirst
 unfolding ran
@@ -70,7 +78,7 @@ last : (s : Session) (w : List ℕ) → let x = standing s [] w (bytesOf (unfini
 unfolding answers
 last s w = rw (none-ended, last-answered, append-nil)
 
--- from bytes to bytes
+-- the list, from bytes to bytes
 pub worked-list : output workedInput ≡ workedOutput
 worked-list =
     sym (ap (λ (l : List ℕ). answers closed (lines [] workedInput) ++ l) (last-kept (rest [] workedInput)))

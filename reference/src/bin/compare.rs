@@ -5,7 +5,6 @@ use reference::call::Code;
 use reference::compare::{self, Counts, Failure, ANSWERS};
 use reference::ended;
 use reference::generate;
-use reference::ranges::all_consists;
 use reference::wire::lines;
 use std::io::{self, IsTerminal, Write};
 use std::path::{Path, PathBuf};
@@ -76,7 +75,6 @@ fn compare_lists(options: &Options) -> Result<(), String> {
         number += 1;
         show_progress(counts.lines, options.lines);
     }
-    compare_list(options, number, &all_consists(), &mut counts)?;
     clear_progress();
     print_table(&counts);
     println!(

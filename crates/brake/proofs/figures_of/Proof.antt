@@ -31,8 +31,8 @@ mul-full c = omega (arith, car (c .before) .force-within)
 div-full : tie.Need-div-full
 div-full c = car (c .before) .mass-positive
 
-cast-brake-cycles : tie.Need-cast-brake-cycles
-cast-brake-cycles c = omega (arith, length-within _ (in-range (c .before .before .before .before)))
+brake-cycles-requires : tie.Need-brake-cycles-requires
+brake-cycles-requires c κs = length-within _ (in-range (c .before .before .before .before))
 
 div-t11 : tie.Need-div-t11
 div-t11 c = rw (c .brake-cycles .ensures) (cycles-positive _)
@@ -57,8 +57,7 @@ figures-of-spec =
     (λ c. search needs)
     mul-full
     div-full
-    cast-brake-cycles
-    (λ c κs. search needs)
+    brake-cycles-requires
     div-t11
     (λ c. search needs)
     returns-2

@@ -1,0 +1,18 @@
+-- Document 01's worked session, with the report that is taken and both call-back examples, as document 02, (i), has it worked out again: the
+-- input and the output in docs/session. It is computed by the definitions, from bytes to bytes (proofs/Worked: worked-session).
+use mathlib.Core.List.{List, [], _∷_}
+use Rattle.session.specs.Worked.{Exchange, line}
+
+abbrev pub paperSession : List Exchange
+paperSession =
+    line " 1  200000000000    8000000000      26822400          3726             0" " 0             0             0             0"
+    ∷ line " 2             7   14295120000          2345             1             0" " 0        133303           263   14295120000"
+    ∷ line " 3             7   14295120000             0             0             0" " 0             1             0   14295120000"
+    ∷ line " 4             7             1         20000             0             0" " 0   14295140000             0             0"
+    ∷ line " 4             7             1         20000             0             0" " 0   14295140000             1             0"
+    ∷ line " 3             7   14295120000             0             0             0" " 0             1          2534   14295139993"
+    ∷ line " 3             7   14295122538          2537             0             0" " 9             0             0             0"
+    ∷ line " 3             7   14295122534          2534             0             0" " 0             2             0   14295139993"
+    ∷ line " 5             7   14295139993             0             0             0" " 0             0             0             0"
+    ∷ line " 5             7   14295139992             0             0             0" "14             0             0             0"
+    ∷ []
