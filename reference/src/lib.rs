@@ -1,4 +1,4 @@
-//! A second implementation of the line controller, written from document 01
+//! A second implementation of the line controller, written from the papers
 //! alone, and the means to compare the session program with it.
 //!
 //! - `cargo test --release` runs the tests, those of the session program too.

@@ -47,8 +47,8 @@ abbrev pub loaded : Figures
 loaded = record { full = 133303; growth = 264 }
 
 -- figures, settings and entering of the worked session: the growth is the sheet's
-abbrev pub sheeted : Figures
-sheeted = record { full = 133303; growth = 263 }
+abbrev pub bySheet : Figures
+bySheet = record { full = 133303; growth = 263 }
 
 abbrev pub limits : Limits
 limits = record { ceiling = 26822400; traction = 3726 }
@@ -69,14 +69,14 @@ starredValues =
     ∷ row (stoppingDistance loaded 100 0) 238
     ∷ row (stoppingDistance loaded 264 0) 792
     ∷ row (stoppingDistance loaded 265 0) 797
-    ∷ row (orderNumber (orderFor sheeted limits (entered .head + 20000) entered)) 1
-    ∷ row (orderCap (orderFor sheeted limits (entered .head + 20000) entered)) 2534
+    ∷ row (orderNumber (orderFor bySheet limits (entered .head + 20000) entered)) 1
+    ∷ row (orderCap (orderFor bySheet limits (entered .head + 20000) entered)) 2534
     ∷ row (isGiven (figuresOf 1 0)) 0
     ∷ row (isGiven (figuresOf 1 10001)) 0
     ∷ row (isGiven (figuresOf 0 2345)) 0
     ∷ row (isGiven (figuresOf 4 2345)) 0
     -- not starred: the count's example, and what 2,345 ft reads off the sheet, with the growth that the session's entering shows
-    ∷ row (1 + cyclesToStand sheeted 26822400) 710
+    ∷ row (1 + cyclesToStand bySheet 26822400) 710
     ∷ row (20 * entryFor 2345) 2360
     ∷ row (brakeCycles 2345) 506
     ∷ row (growthGiven (figuresOf 1 2345)) 263
