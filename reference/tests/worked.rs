@@ -1,5 +1,5 @@
 //! The worked list and the worked session. The checker has computed them from
-//! the pages in `crates/session/specs`; the gate runs the program on the files.
+//! the pages in `crates/worked/specs`; the gate runs the program on the files.
 //! Page and files have to be the same.
 
 use std::fs;
@@ -8,8 +8,8 @@ use std::path::PathBuf;
 use reference::compare::ANSWERS;
 use reference::session;
 
-fn of_crate(file: &str) -> String {
-    let path: PathBuf = [env!("CARGO_MANIFEST_DIR"), "../crates/session", file]
+fn of_crates(file: &str) -> String {
+    let path: PathBuf = [env!("CARGO_MANIFEST_DIR"), "../crates", file]
         .iter()
         .collect();
     fs::read_to_string(&path).unwrap_or_else(|error| panic!("{}: {error}", path.display()))
@@ -17,7 +17,7 @@ fn of_crate(file: &str) -> String {
 
 /// The input lines and the answers on a page, in order.
 fn page(file: &str) -> (Vec<String>, Vec<String>) {
-    of_crate(file)
+    of_crates(file)
         .lines()
         .filter_map(|line| {
             let texts: Vec<&str> = line.split('"').collect();
@@ -31,7 +31,7 @@ fn page(file: &str) -> (Vec<String>, Vec<String>) {
 
 #[test]
 fn session_is_its_page() {
-    let (inputs, answers) = page("specs/Paper.antt");
+    let (inputs, answers) = page("worked/specs/Paper.antt");
     let printed = |lines: Vec<String>| lines.join("\n") + "\n";
     assert_eq!(
         printed(inputs),
@@ -45,23 +45,26 @@ fn session_is_its_page() {
 
 #[test]
 fn files_are_the_page() {
-    let (inputs, answers) = page("specs/Worked.antt");
+    let (inputs, answers) = page("worked/specs/Worked.antt");
     assert!(inputs.len() > 300, "{} lines on the page", inputs.len());
     // The last line has no line feed.
-    assert_eq!(of_crate("stdin"), inputs.join("\n"));
-    assert_eq!(of_crate("stdout"), answers.join("\n") + "\n");
+    assert_eq!(of_crates("session/stdin"), inputs.join("\n"));
+    assert_eq!(of_crates("session/stdout"), answers.join("\n") + "\n");
 }
 
 #[test]
 fn second_implementation_gives_the_answers() {
-    let output = session::run(of_crate("stdin").as_bytes());
-    assert_eq!(String::from_utf8_lossy(&output), of_crate("stdout"));
+    let output = session::run(of_crates("session/stdin").as_bytes());
+    assert_eq!(
+        String::from_utf8_lossy(&output),
+        of_crates("session/stdout")
+    );
 }
 
 #[test]
 fn input_needs_several_reads_and_each_answer_comes_up() {
-    assert!(of_crate("stdin").len() > 4 * 4096);
-    let output = of_crate("stdout");
+    assert!(of_crates("session/stdin").len() > 4 * 4096);
+    let output = of_crates("session/stdout");
     for number in 0..ANSWERS {
         let start = format!("{number:2} ");
         assert!(

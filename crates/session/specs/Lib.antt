@@ -1,3 +1,1 @@
 pub mod Program
-pub mod Worked
-pub mod Paper

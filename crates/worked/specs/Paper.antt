@@ -1,7 +1,7 @@
 -- Document 01's worked session, with the report that is taken and both call-back examples, as document 02, (i), has it worked out again: the
 -- input and the output in docs/session. It is computed by the definitions, from bytes to bytes (proofs/Worked: worked-session).
 use mathlib.Core.List.{List, [], _∷_}
-use Rattle.session.specs.Worked.{Exchange, line}
+use Rattle.worked.specs.Worked.{Exchange, line}
 
 abbrev pub paperSession : List Exchange
 paperSession =

@@ -1,4 +1,4 @@
--- A worked list, line by line with its answers: the input and the output of the gate's run of the program (`stdin` and `stdout` of this crate).
+-- A worked list, line by line with its answers: the input and the output of the gate's run of the program (`stdin` and `stdout` of `session`).
 -- Trains of each load class drive and brake at speed, are extended, called back, held, lifted and taken off, or refused it. Each answer number
 -- comes up. It is computed by the definitions, from bytes to bytes (proofs/Worked: worked-list).
 use Prim.Native.Nat.{ℕ, _-_}
@@ -7,7 +7,7 @@ use Prim.Native.String.{String, [] as no-text, _∷_ as _then_}
 use mathlib.Core.Bool.{true, false}
 use mathlib.Core.List.{List, [], _∷_, _++_}
 use lib.ListN.{length, replicate}
-use Rattle.motion.specs.declared.Order.the-variants.{Brake}
+use Rattle.motion.specs.declared.Order.the-variants.{Drive, Brake}
 use Rattle.calls.specs.declared.Opening.{Opening}
 use Rattle.train.specs.declared.Train.{Train}
 use Rattle.train.specs.Ranges.{settingsOf}
@@ -149,7 +149,7 @@ afterFirst =
     ∷ trainOf 300 5 (record { full = 162039; growth = 1286 }) (record { head = 5398784000; speed = 0; level = 162039 }) Brake (record { end = 5398784000; start = 4294967294; number = 4294967294; asked = 0 }) (record { held = false })
     ∷ [])
 
--- ---- second part: up to the speed ceiling and down to a stand
+-- ---- second part: up to the speed ceiling
 
 abbrev pub secondPart : List Exchange
 secondPart =
@@ -207,8 +207,22 @@ secondPart =
     ∷ line " 3         65535   20305565250       5495170             0             0" " 0             1        100000   21272314327"
     ∷ line " 3         65535   20316655590       5595170             0             0" " 0             1         98457   21308891134"
     ∷ line " 3         65535   20327944387       5693627             0             0" " 0             1             0   21320278388"
+    ∷ []
+
+abbrev pub afterSecond : Session
+afterSecond =
+    opened
+    (trainOf 65535 1 (record { full = 87021; growth = 690 }) (record { head = 20327944387; speed = 5693627; level = 0 }) (Drive 0) (record { end = 90029628551; start = 10; number = 14; asked = 70000000000 }) (record { held = false })
+    ∷ trainOf 7 2345 (record { full = 133303; growth = 263 }) (record { head = 19893904000; speed = 0; level = 133303 }) Brake (record { end = 19893904000; start = 0; number = 0; asked = 0 }) (record { held = false })
+    ∷ trainOf 300 5 (record { full = 162039; growth = 1286 }) (record { head = 5398784000; speed = 0; level = 162039 }) Brake (record { end = 5398784000; start = 4294967294; number = 4294967294; asked = 0 }) (record { held = false })
+    ∷ [])
+
+-- ---- third part: down to a stand
+
+abbrev pub thirdPart : List Exchange
+thirdPart =
     -- Held at the ceiling, it brakes. The level grows by 690 with each report, to above half of full brake.
-    ∷ line " 6         65535             0             0             0             0" " 0             0             0             0"
+    line " 6         65535             0             0             0             0" " 0             0             0             0"
     ∷ line " 3         65535   20339331641       5693627             0             0" " 0             2             0   21320278388"
     ∷ line " 3         65535   20350718895       5693627             0             0" " 0             2             0   21320278388"
     ∷ line " 3         65535   20362105459       5692937             0             0" " 0             2             0   21320278388"
@@ -359,18 +373,18 @@ secondPart =
     ∷ line " 3         65535   21320278388             0             0             0" " 0             2             0   21320278388"
     ∷ []
 
-abbrev pub afterSecond : Session
-afterSecond =
+abbrev pub afterThird : Session
+afterThird =
     opened
     (trainOf 65535 1 (record { full = 87021; growth = 690 }) (record { head = 21320278388; speed = 0; level = 87021 }) Brake (record { end = 21340278388; start = 10; number = 16; asked = 20000000 }) (record { held = true })
     ∷ trainOf 7 2345 (record { full = 133303; growth = 263 }) (record { head = 19893904000; speed = 0; level = 133303 }) Brake (record { end = 19893904000; start = 0; number = 0; asked = 0 }) (record { held = false })
     ∷ trainOf 300 5 (record { full = 162039; growth = 1286 }) (record { head = 5398784000; speed = 0; level = 162039 }) Brake (record { end = 5398784000; start = 4294967294; number = 4294967294; asked = 0 }) (record { held = false })
     ∷ [])
 
--- ---- third part: the trains behind, 32 of them, and the first one taken off
+-- ---- fourth part: the trains behind, 32 of them, and the first one taken off
 
-abbrev pub thirdPart : List Exchange
-thirdPart =
+abbrev pub fourthPart : List Exchange
+fourthPart =
     -- Train 7 has track now. Where its end leaves just not enough for the greatest traction, it gets a little less.
     line " 4             7             1       3876886             0             0" " 0   19897780886             0             0"
     ∷ line " 3             7   19893904000             0             0             0" " 0             1         99990   19897780886"
@@ -446,7 +460,6 @@ thirdPart =
     ∷ line " 4             7             2   80102219114             0             0" " 0  100000000000             0             0"
     -- In the new stay nothing of the earlier one counts: number 1 is new, and there is no track.
     ∷ line " 4         65535             1             1             0             0" "13             0             0             0"
-    -- The last line has no line feed.
     ∷ []
 
 -- the last line has no line feed
@@ -456,7 +469,7 @@ unfinished = line " 7             7             0             0             0   
 -- ---- the whole
 
 abbrev pub workedInput : List ℕ
-workedInput = inputOf firstPart ++ (inputOf secondPart ++ (inputOf thirdPart ++ bytesOf (unfinished .input)))
+workedInput = inputOf firstPart ++ (inputOf secondPart ++ (inputOf thirdPart ++ (inputOf fourthPart ++ bytesOf (unfinished .input))))
 
 abbrev pub workedOutput : List ℕ
-workedOutput = ((outputOf firstPart ++ outputOf secondPart) ++ outputOf thirdPart) ++ outputOf (unfinished ∷ [])
+workedOutput = (((outputOf firstPart ++ outputOf secondPart) ++ outputOf thirdPart) ++ outputOf fourthPart) ++ outputOf (unfinished ∷ [])

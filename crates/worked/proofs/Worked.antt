@@ -23,8 +23,8 @@ use Rattle.stream.specs.Session.{closed, lineDecision}
 use Rattle.stream.specs.Input.{lines, rest, after, outputLine, answers, lastAnswer, output, kept}
 use Rattle.stream.proofs.Lines.{Standing, standing, standing-kept, standing-cut}
 use Rattle.stream.proofs.Pieces.{last-kept}
-use Rattle.session.specs.Paper.{paperSession}
-use Rattle.session.specs.Worked.{Exchange, bytesOf, inputOf, outputOf, firstPart, afterFirst, secondPart, afterSecond, thirdPart, unfinished, workedInput, workedOutput}
+use Rattle.worked.specs.Paper.{paperSession}
+use Rattle.worked.specs.Worked.{Exchange, bytesOf, inputOf, outputOf, firstPart, afterFirst, secondPart, afterSecond, thirdPart, afterThird, fourthPart, unfinished, workedInput, workedOutput}
 
 -- what has been written after lines from the state s on, and how things stand then
 unfoldable ran : Session → List Exchange → Standing
@@ -50,9 +50,13 @@ second : Ruled afterFirst secondPart afterSecond
 unfolding ran
 second = refl
 
-third : Ruled afterSecond thirdPart (ran afterSecond thirdPart .session)
+third : Ruled afterSecond thirdPart afterThird
 unfolding ran
 third = refl
+
+fourth : Ruled afterThird fourthPart (ran afterThird fourthPart .session)
+unfolding ran
+fourth = refl
 
 -- the unfinished line ends none
 none-ended : lines [] (bytesOf (unfinished .input)) ≡ []
@@ -85,5 +89,6 @@ worked-list =
     ∙ ap (λ (x : Standing). x .written ++ lastAnswer (x .begins))
     (part closed firstPart afterFirst first [] _
     ∙ part afterFirst secondPart afterSecond second (outputOf firstPart) _
-    ∙ part afterSecond thirdPart (ran afterSecond thirdPart .session) third (outputOf firstPart ++ outputOf secondPart) _)
-    ∙ last (ran afterSecond thirdPart .session) ((outputOf firstPart ++ outputOf secondPart) ++ outputOf thirdPart)
+    ∙ part afterSecond thirdPart afterThird third (outputOf firstPart ++ outputOf secondPart) _
+    ∙ part afterThird fourthPart (ran afterThird fourthPart .session) fourth ((outputOf firstPart ++ outputOf secondPart) ++ outputOf thirdPart) _)
+    ∙ last (ran afterThird fourthPart .session) (((outputOf firstPart ++ outputOf secondPart) ++ outputOf thirdPart) ++ outputOf fourthPart)
