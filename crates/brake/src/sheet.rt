@@ -1,5 +1,5 @@
-// The brake shop's sheet: cycles until the brake is full, for every 20 ft from 0 to 10,000 ft. Its proof computes each entry from the formula
-// (proofs/sheet_entry).
+// The brake shop's sheet: cycles until the brake is full, for every 20 ft from 0 to 10,000 ft. It is written down here alone; that each entry is the
+// formula's is computed in proofs/sheet_entry: entries-follow.
 
 pub const SHEET: [u64; 501] = [
     123, // 0 ft
