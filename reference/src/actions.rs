@@ -1,7 +1,7 @@
 //! Random actions of a scene: calls that fit the table, that just do not fit
 //! it, and that are far off.
 
-use crate::brake::{FEET_PER_ENTRY, LONGEST_FEET, STEPS_PER_FOOT};
+use crate::brake::{FEET_PER_ENTRY, LAST_ENTRY_FEET, LONGEST_FEET, STEPS_PER_FOOT};
 use crate::call::{Call, Entry};
 use crate::line::{Line, LAST_ID, LAST_NUMBER};
 use crate::scene::Scene;
@@ -10,7 +10,7 @@ use crate::wire::WIDEST;
 
 /// The shortest length, and both ends of what the last entry of the brake
 /// shop's sheet is for.
-const SHEET_ENDS: [u64; 3] = [1, LONGEST_FEET - FEET_PER_ENTRY + 1, LONGEST_FEET];
+const SHEET_ENDS: [u64; 3] = [1, LAST_ENTRY_FEET, LONGEST_FEET];
 
 impl Scene {
     /// One action of any kind, for a train on the line or to come.

@@ -4,6 +4,8 @@ pub const LONGEST_FEET: u64 = 10_000;
 pub const STEPS_PER_FOOT: u64 = 6_096_000;
 /// The brake shop's sheet has an entry for every so many feet.
 pub const FEET_PER_ENTRY: u64 = 20;
+/// The shortest of the lengths that take its last entry.
+pub const LAST_ENTRY_FEET: u64 = LONGEST_FEET - FEET_PER_ENTRY + 1;
 
 const GRAVITY: u64 = 980_665;
 const NANOSECONDS_PER_CYCLE: u64 = 100_000_000;

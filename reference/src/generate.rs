@@ -1,6 +1,6 @@
 //! Lists of calls from a seed, of several kinds.
 
-use crate::brake::{LONGEST_FEET, STEPS_PER_FOOT};
+use crate::brake::{LAST_ENTRY_FEET, LONGEST_FEET, STEPS_PER_FOOT};
 use crate::call::{Call, Entry, Settings};
 use crate::convoy::Convoy;
 use crate::line::{
@@ -205,13 +205,15 @@ fn full(scene: &mut Scene, settings: Settings) {
     }
 }
 
-/// The train with the longest way to stop comes to speed on a free line.
+/// The train with the longest way to stop comes to speed on a free line. All
+/// lengths that take the sheet's last entry have that way.
 fn worst(scene: &mut Scene, settings: Settings) {
     open(scene, settings);
+    let feet = scene.random.pick(&[LAST_ENTRY_FEET, LONGEST_FEET]);
     scene.enter(Entry {
         id: 1,
         head: LONGEST_FEET * STEPS_PER_FOOT,
-        feet: LONGEST_FEET,
+        feet,
         class: 3,
         start: 0,
     });

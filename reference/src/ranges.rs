@@ -1,7 +1,7 @@
 //! Both ends of every range and one beyond, for each field of each call.
 
 use crate::actions::calls_naming;
-use crate::brake::{LONGEST_FEET, STEPS_PER_FOOT};
+use crate::brake::{FEET_PER_ENTRY, LAST_ENTRY_FEET, LONGEST_FEET, STEPS_PER_FOOT};
 use crate::call::{Call, Entry, Settings};
 use crate::line::{
     GREATEST_CEILING, GREATEST_SAFETY, GREATEST_TRACTION, LAST_ID, LAST_NUMBER, LONGEST_LINE,
@@ -98,6 +98,14 @@ fn entering_ranges(scene: &mut Scene) {
         enter(scene, Entry { id, ..good });
     }
     for feet in [0, 1, LONGEST_FEET, LONGEST_FEET + 1, WIDEST] {
+        enter(scene, Entry { feet, ..good });
+    }
+    for feet in [
+        FEET_PER_ENTRY,
+        FEET_PER_ENTRY + 1,
+        LAST_ENTRY_FEET - 1,
+        LAST_ENTRY_FEET,
+    ] {
         enter(scene, Entry { feet, ..good });
     }
     for class in [0, 1, 2, 3, 4, WIDEST] {
