@@ -26,15 +26,16 @@ use Rattle.calls.specs.declared.Answer.the-variants.{Accepted, Refused}
 use Rattle.calls.specs.declared.Values.the-variants.{Entered, Zeros}
 use Rattle.calls.specs.Answers.{numbers, numbersOf}
 use Rattle.calls.proofs.Answers.{accepted-0}
-use Rattle.train.specs.declared.Verdict.{Verdict}
+use Rattle.acts.specs.declared.Verdict.{Verdict}
 use Rattle.train.specs.Ranges.{settingsInRange, settingsOf}
 use Rattle.train.specs.Record.{trainOf, figuresFor}
 use Rattle.train.specs.Track.{stepsOf}
-use Rattle.train.specs.Acts.{mayLeave}
-use Rattle.train.specs.Decide.{decide, verdict}
+use Rattle.acts.specs.Acts.{mayLeave}
+use Rattle.acts.specs.Decide.{decide, verdict}
 use Rattle.train.proofs.Track.{InLimit, limit-beyond, limit-within}
 use Rattle.train.proofs.Records.{WorksWith, settings-given}
-use Rattle.train.proofs.Sentences.{Offers, settings-exactly, leaves-exactly}
+use Rattle.train.proofs.Sentences.{Offers, settings-exactly}
+use Rattle.acts.proofs.Sentences.{leaves-exactly}
 use Rattle.table.specs.declared.Table.{Table}
 use Rattle.table.specs.declared.Change.the-variants.{Stay, Add, DropFirst, Anew}
 use Rattle.table.specs.Table.{placeOf, trainAt, limitAt, changed}

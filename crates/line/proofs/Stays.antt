@@ -20,9 +20,9 @@ use Rattle.train.specs.declared.Train.{Train}
 use Rattle.train.specs.declared.Settings.{Settings}
 use Rattle.train.specs.declared.Limit.{Limit}
 use Rattle.train.specs.Record.{entering}
-use Rattle.train.specs.Acts.{mayLeave}
-use Rattle.train.specs.Decide.{decide}
-use Rattle.train.proofs.Sentences.{leaves-exactly, act-leaves}
+use Rattle.acts.specs.Acts.{mayLeave}
+use Rattle.acts.specs.Decide.{decide}
+use Rattle.acts.proofs.Sentences.{leaves-exactly, act-leaves}
 use Rattle.table.specs.declared.Table.{Table}
 use Rattle.table.specs.declared.Change.the-variants.{Put, Add, DropFirst}
 use Rattle.table.specs.Table.{placeOf, trainAt, changed}

@@ -29,13 +29,13 @@ use Rattle.calls.specs.Checks.{check, firstOf}
 use Rattle.calls.proofs.Checks.{passed}
 use Rattle.train.specs.declared.Train.{Train}
 use Rattle.train.specs.declared.Limit.{Limit}
-use Rattle.train.specs.declared.Verdict.{Verdict}
-use Rattle.train.specs.declared.Verdict.the-variants.{TurnedDown, Passed}
+use Rattle.acts.specs.declared.Verdict.{Verdict}
+use Rattle.acts.specs.declared.Verdict.the-variants.{TurnedDown, Passed}
 use Rattle.train.specs.Ranges.{settingsInRange, settingsOf}
 use Rattle.train.specs.Record.{figuresFor, entering}
 use Rattle.train.specs.Track.{stepsOf, withinLimit}
-use Rattle.train.specs.Acts.{mayLeave}
-use Rattle.train.specs.Decide.{Ruling, decide, verdictBy, verdict}
+use Rattle.acts.specs.Acts.{mayLeave}
+use Rattle.acts.specs.Decide.{Ruling, decide, verdictBy, verdict}
 use Rattle.table.specs.declared.Table.{Table}
 use Rattle.table.specs.declared.Change.{Change}
 use Rattle.table.specs.declared.Change.the-variants.{Put, Add, DropFirst, Anew}

@@ -24,8 +24,8 @@ use Rattle.calls.specs.Checks.{Check, check, firstOf}
 use Rattle.train.specs.Ranges.{settingsInRange, settingsOf}
 use Rattle.train.specs.Record.{figuresFor, entering}
 use Rattle.train.specs.Track.{stepsOf, withinLimit}
-use Rattle.train.specs.Acts.{mayLeave}
-use Rattle.train.specs.Decide.{Ruling, decide}
+use Rattle.acts.specs.Acts.{mayLeave}
+use Rattle.acts.specs.Decide.{Ruling, decide}
 use Rattle.table.specs.declared.Table.{Table}
 use Rattle.table.specs.declared.Change.{Change}
 use Rattle.table.specs.declared.Change.the-variants.{Stay, Put, Add, DropFirst, Anew}

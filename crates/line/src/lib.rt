@@ -6,6 +6,7 @@ ghost use Prim.Native.Nat.{_≤_};
 ghost use Rattle.ranges.specs.Ranges.{greatestLength, idInRange, startInRange};
 ghost use Rattle.line.specs.Decide.{refused, accepted, openDecision, enterDecision, decideOn};
 ghost use Rattle.line.specs.Step.{noTable, openStep, step};
+use acts::Verdict;
 use brake::Figures;
 use brake::FiguresFound;
 use calls::Act;
@@ -21,7 +22,6 @@ use calls::Values;
 use table::Change;
 use table::Found;
 use table::Table;
-use train::Verdict;
 
 // The answer to a request, and what changes in the table.
 pub struct Decision {
@@ -117,7 +117,7 @@ fn decide_own(t: Table, id: u64, a: Act) -> Decision
         return refuse(Refusal::NoTrain);
     };
     let s = t.settings;
-    match train::decide(s, limit, x, a) {
+    match acts::decide(s, limit, x, a) {
         Verdict::TurnedDown(r) => refuse(r),
         Verdict::Passed(v, y) => accept(v, Change::Put(i, y)),
     }
@@ -130,7 +130,7 @@ fn decide_take_off(t: Table, id: u64) -> Decision
     let Found::At(i, _, x) = table::find(t, id) else {
         return refuse(Refusal::NoTrain);
     };
-    if !train::may_leave(i, x) {
+    if !acts::may_leave(i, x) {
         return refuse(Refusal::NotLeaving);
     }
     accept(Values::Zeros, Change::DropFirst)

@@ -35,11 +35,12 @@ use Rattle.train.specs.declared.Train.{Train}
 use Rattle.train.specs.declared.Limit.{Limit}
 use Rattle.train.specs.Track.{withinLimit}
 use Rattle.train.specs.Report.{reachOf, allowed, motionAfter, reported}
-use Rattle.train.specs.Acts.{isRepeat, granted, extended, endingAt}
-use Rattle.train.specs.Decide.{Ruling, decide}
+use Rattle.acts.specs.Acts.{isRepeat, granted, extended, endingAt}
+use Rattle.acts.specs.Decide.{Ruling, decide}
 use Rattle.train.proofs.Records.{held-brakes}
 use Rattle.train.proofs.Track.{InLimit, limit-tested, limit-below}
-use Rattle.train.proofs.Checks.{report-allowed, call-back-allowed, allowed-head, allowed-no-worse}
+use Rattle.train.proofs.Checks.{report-allowed, allowed-head, allowed-no-worse}
+use Rattle.acts.proofs.Checks.{call-back-allowed}
 use Rattle.safety.specs.History.{Told, levelAfter, orderIn, longer, still, toldAct}
 use Rattle.safety.specs.Claim.{recordOf}
 use Rattle.safety.proofs.Train.{Guarded, guarded-report, guarded-still}

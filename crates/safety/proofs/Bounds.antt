@@ -30,11 +30,12 @@ use Rattle.ranges.specs.Ranges.{between}
 use Rattle.train.specs.Ranges.{settingsInRange, settingsOf}
 use Rattle.table.specs.Table.{trainAt, limitAt}
 use Rattle.train.specs.Report.{reachOf, allowed, motionAfter, computable, reportAllowed}
-use Rattle.train.specs.Acts.{callBackAllowed}
+use Rattle.acts.specs.Acts.{callBackAllowed}
 use Rattle.line.specs.Step.{outcome, openStep}
 use Rattle.line.proofs.Steps.{open-made}
 use Rattle.train.proofs.Checks.{allowed-no-worse}
-use Rattle.train.proofs.Sentences.{settings-exactly, call-back-tested}
+use Rattle.train.proofs.Sentences.{settings-exactly}
+use Rattle.acts.proofs.Sentences.{call-back-tested}
 use Rattle.safety.specs.History.{history, after, Told, told}
 use Rattle.safety.specs.Claim.{recordOf}
 use Rattle.safety.proofs.Train.{Guarded, guarded-head}

@@ -33,10 +33,10 @@ use Rattle.train.specs.declared.Settings.{Settings}
 use Rattle.train.specs.Ranges.{settingsOf}
 use Rattle.train.specs.Record.{figuresFor, entering}
 use Rattle.train.specs.Track.{stepsOf}
-use Rattle.train.specs.Acts.{mayLeave}
+use Rattle.acts.specs.Acts.{mayLeave}
 use Rattle.train.proofs.Records.{figures-entered}
 use Rattle.train.proofs.Track.{limit-tested}
-use Rattle.train.proofs.Checks.{first-leaves}
+use Rattle.acts.proofs.Checks.{first-leaves}
 use Rattle.table.specs.declared.Table.{Table}
 use Rattle.table.specs.declared.Change.the-variants.{Put, Add, DropFirst}
 use Rattle.table.specs.Table.{emptyTable, placeOf, trainAt, limitAt}

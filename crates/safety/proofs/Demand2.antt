@@ -1,6 +1,6 @@
 -- Demand 2, a law to a sentence: in its words and order, of every table that a list of calls left on an opened line, in numbers and in the
--- fields of records. What each law cites is said of one train in train/proofs/Sentences, of motion and caps in motion/proofs/Sentences and
--- OrderSentences, of figures in brake/proofs/Sentences. Entering and taking off, which ask no list, are in line/proofs/Rules.
+-- fields of records. What each law cites is said of one train in acts/proofs/Sentences and train/proofs/Sentences, of motion and caps in
+-- motion/proofs/Sentences and OrderSentences, of figures in brake/proofs/Sentences. Entering and taking off, which ask no list, are in line/proofs/Rules.
 -- Assumes nothing.
 use Prim.Native.Nat.{ℕ, suc, _+_, _*_, _≤_, _<_}
 use mathlib.Core.Bool.{Bool, true, false}
@@ -32,7 +32,8 @@ use Rattle.train.specs.Record.{same}
 use Rattle.train.specs.Report.{worstOf, reachOf, orderAfter}
 use Rattle.train.proofs.Track.{InLimit}
 use Rattle.train.proofs.Records.{WorksWith, settings-given, free-order}
-use Rattle.train.proofs.Sentences.{report-exactly, report-9, report-answered, held-order, free-drives, free-brakes, Asks, extension-10, extension-11, extension-12, extension-repeated, extension-13, extension-taken, call-back-moves, call-back-14, hold-marks, lift-unmarks}
+use Rattle.train.proofs.Sentences.{report-exactly, held-order, free-drives, free-brakes}
+use Rattle.acts.proofs.Sentences.{report-9, report-answered, Asks, extension-10, extension-11, extension-12, extension-repeated, extension-13, extension-taken, call-back-moves, call-back-14, hold-marks, lift-unmarks}
 use Rattle.table.specs.declared.Table.{Table}
 use Rattle.table.specs.declared.Change.the-variants.{Put}
 use Rattle.table.specs.Table.{placeOf, trainAt, limitAt, changed}

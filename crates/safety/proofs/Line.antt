@@ -18,7 +18,7 @@ use Rattle.train.specs.declared.Settings.{Settings}
 use Rattle.train.specs.declared.Train.{Train}
 use Rattle.train.specs.declared.Limit.{Limit}
 use Rattle.train.specs.Track.{stepsOf, limitBehind}
-use Rattle.train.specs.Decide.{decide}
+use Rattle.acts.specs.Decide.{decide}
 use Rattle.train.proofs.Track.{InLimit, limit-first, in-behind, behind-in}
 use Rattle.table.specs.Table.{blankTrain}
 use Rattle.safety.specs.History.{Told, toldOwn, without}

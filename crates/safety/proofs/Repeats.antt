@@ -22,10 +22,10 @@ use Rattle.calls.specs.declared.Values.the-variants.{Extended, Zeros}
 use Rattle.calls.specs.Answers.{numbersOf}
 use Rattle.train.specs.declared.Train.{Train}
 use Rattle.train.specs.declared.Settings.{Settings}
-use Rattle.train.specs.declared.Verdict.the-variants.{TurnedDown, Passed}
-use Rattle.train.specs.Acts.{isRepeat, extended}
-use Rattle.train.specs.Decide.{decide, verdict}
-use Rattle.train.proofs.Sentences.{Asks, extension-repeated, extension-used, extension-accepted, Leaves, act-leaves, number-onward}
+use Rattle.acts.specs.declared.Verdict.the-variants.{TurnedDown, Passed}
+use Rattle.acts.specs.Acts.{isRepeat, extended}
+use Rattle.acts.specs.Decide.{decide, verdict}
+use Rattle.acts.proofs.Sentences.{Asks, extension-repeated, extension-used, extension-accepted, Leaves, act-leaves, number-onward}
 use Rattle.table.specs.declared.Table.{Table}
 use Rattle.table.specs.Table.{placeOf, trainAt, limitAt}
 use Rattle.table.proofs.Places.{found-below, still-found, still-there, put-same}

@@ -1,6 +1,6 @@
--- What the checks of an accepted call say of the train that it names.
+-- What the check of an accepted report says of the train.
 -- Assumes nothing.
-use Prim.Native.Nat.{ℕ, _≤_}
+use Prim.Native.Nat.{_≤_}
 use mathlib.Core.Bool.{true, false, not}
 use mathlib.Core.Path.{_≡_, refl}
 use borrow.Author.Tests.{not-false}
@@ -8,19 +8,12 @@ use Rattle.motion.proofs.Domination.{NoWorse}
 use Rattle.calls.specs.declared.Reading.{Reading}
 use Rattle.train.specs.declared.Settings.{Settings}
 use Rattle.train.specs.declared.Train.{Train}
-use Rattle.train.specs.Report.{worstOf, reachOf, allowed, motionAfter, reportAllowed}
-use Rattle.train.specs.Acts.{callBackAllowed, mayLeave}
+use Rattle.train.specs.Report.{worstOf, allowed, motionAfter, reportAllowed}
 use Rattle.train.proofs.Records.{report-passed}
-use Rattle.train.proofs.Sentences.{report-exactly, call-back-between, leaves-exactly}
+use Rattle.train.proofs.Sentences.{report-exactly}
 
 pub report-allowed : (σ : Settings) (x : Train) (r : Reading) → not (reportAllowed σ x r) ≡ false → allowed x r ≡ true
 report-allowed σ x r e = report-passed σ x r (not-false _ e) .allows
-
-pub call-back-allowed : (x : Train) (place : ℕ) → not (callBackAllowed x place) ≡ false → (reachOf x ≤ place) × (place ≤ x .authority .end)
-call-back-allowed x place e = call-back-between x place (not-false _ e)
-
-pub first-leaves : (i : ℕ) (x : Train) → mayLeave i x ≡ true → i ≡ 0
-first-leaves i x e = leaves-exactly i x .0 e .0
 
 module _ (x : Train) (r : Reading) (e : allowed x r ≡ true) where
   pub allowed-head : x .motion .head ≤ r .head

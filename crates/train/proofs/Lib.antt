@@ -1,5 +1,4 @@
 pub mod Track
 pub mod Records
-pub mod Verdicts
 pub mod Sentences
 pub mod Checks

@@ -1,13 +1,16 @@
 -- Laws of the settings and of one train record: what an opening and an entering give, what a report is judged by, and the order that it
 -- gets.
 -- Assumes nothing.
+use Prim.Native.Nat.{ℕ}
 use mathlib.Core.Bool.{true, false, _&&_}
 use mathlib.Core.Logic.{inl, inr}
 use mathlib.Core.Path.{_≡_, refl}
+use native.Mathlib.Omega.{arith}
 use Rattle.logic.proofs.Tests.{by-test, both}
 use Rattle.brake.specs.Consist.{figuresOf}
 use Rattle.motion.specs.declared.Motion.{Motion}
-use Rattle.motion.specs.declared.Order.the-variants.{Brake}
+use Rattle.motion.specs.declared.Order.{Order}
+use Rattle.motion.specs.declared.Order.the-variants.{Drive, Brake}
 use Rattle.motion.specs.Orders.{orderCap, orderFor}
 use Rattle.motion.specs.Bounds.{Bounded}
 use Rattle.motion.proofs.Bounds.{bounds-tested}
@@ -18,7 +21,7 @@ use Rattle.calls.specs.declared.Reading.{Reading}
 use Rattle.train.specs.declared.Settings.{Settings}
 use Rattle.train.specs.declared.Train.{Train}
 use Rattle.train.specs.Ranges.{settingsOf}
-use Rattle.train.specs.Record.{figuresFor}
+use Rattle.train.specs.Record.{figuresFor, isBrake}
 use Rattle.train.specs.Report.{allowed, motionAfter, goalOf, orderAfter, computable, reportAllowed}
 
 -- the table works with the numbers that were opened
@@ -66,3 +69,7 @@ free-order σ x m e = rw (e, orderAfter)
 
 pub may-order : (σ : Settings) (x : Train) (m : Motion) → MayOrder (x .figures) (σ .limits) (goalOf x) m (orderAfter σ x m)
 may-order σ x m = by-test (x .marks .held) (λ e. inl (held-brakes σ x m e)) (λ e. inr (free-order σ x m e))
+
+pub brake-tested : (o : Order) → isBrake o ≡ true → o ≡ Brake
+brake-tested (Drive c) e = let z : _≡_ {A = ℕ} 0 1 = cc in absurd (omega arith)
+brake-tested Brake e = refl

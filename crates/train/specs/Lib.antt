@@ -2,5 +2,3 @@ pub mod Ranges
 pub mod Record
 pub mod Track
 pub mod Report
-pub mod Acts
-pub mod Decide

@@ -1,12 +1,12 @@
 -- Document 01, "Orders" and "Authorities": a train record, in parts. A part that a call sets has a definition for its value on entering.
 use Prim.Native.Nat.{ℕ}
-use mathlib.Core.Bool.{Bool, false}
+use mathlib.Core.Bool.{Bool, true, false}
 use Rattle.brake.specs.declared.Figures.{Figures}
 use Rattle.brake.specs.declared.FiguresFound.{FiguresFound}
 use Rattle.brake.specs.Consist.{figuresOf}
 use Rattle.motion.specs.declared.Motion.{Motion}
 use Rattle.motion.specs.declared.Order.{Order}
-use Rattle.motion.specs.declared.Order.the-variants.{Brake}
+use Rattle.motion.specs.declared.Order.the-variants.{Drive, Brake}
 use Rattle.calls.specs.declared.Entry.{Entry}
 use Rattle.train.specs.declared.Settings.{Settings}
 use Rattle.train.specs.declared.Authority.{Authority}
@@ -49,3 +49,8 @@ marked x ms = same x (x .motion) (x .order) (x .authority) ms
 -- the mark of a hold, set or taken away
 abbrev pub withHeld : Marks → Bool → Marks
 withHeld ms b = record { held = b }
+
+-- whether the last order is brake
+abbrev pub isBrake : Order → Bool
+isBrake (Drive c) = false
+isBrake Brake = true

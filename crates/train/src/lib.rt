@@ -1,5 +1,4 @@
-// One train: its record, how a report is judged and answered, and what each call does to the record. Document 01, "Line and
-// consist", "Orders" and "Authorities".
+// One train: its record, its limit, and how a report is judged and answered. Document 01, "Line and consist" and "Orders".
 ghost use mathlib.Core.Path.{_≡_};
 ghost use mathlib.Core.Bool.{true};
 ghost use mathlib.Core.Option.{some};
@@ -7,21 +6,15 @@ ghost use Prim.Native.Nat.{_+_, _^_, _≤_, _<_};
 ghost use Rattle.ranges.specs.Ranges.{greatestLength};
 ghost use Rattle.motion.specs.Orders.{offer};
 ghost use Rattle.motion.specs.Bounds.{Bounded};
-ghost use Rattle.train.specs.Ranges.{settingsInRange, settingsOf, requestInRange};
-ghost use Rattle.train.specs.Record.{figuresFor, freshAuthority, freshMarks, entering, moved, authorised};
+ghost use Rattle.train.specs.Ranges.{settingsInRange, settingsOf};
+ghost use Rattle.train.specs.Record.{figuresFor, freshAuthority, freshMarks, entering, moved, isBrake};
 ghost use Rattle.train.specs.Track.{stepsOf, limitBehind, withinLimit};
 ghost use Rattle.train.specs.Report.{worstOf, reachOf, allowed, motionAfter, orderAfter, reported, withReach, computable, reportAllowed};
-ghost use Rattle.train.specs.Acts.{isOld, granted, calledBack, callBackAllowed, holding, isBrake, mayLeave};
-ghost use Rattle.train.specs.Decide.{reporting, extending, callingBack, decide as decision, verdict};
 use brake::Figures;
 use brake::FiguresFound;
-use calls::Act;
-use calls::Asked;
 use calls::Entry;
 use calls::Opening;
 use calls::Reading;
-use calls::Refusal;
-use calls::Values;
 use motion::Limits;
 use motion::Motion;
 use motion::Offer;
@@ -71,12 +64,6 @@ pub struct Reported {
     pub reach: u64,
 }
 
-// What an act of a train comes to: turned down, or its checks passed, what it gives and the record after it.
-pub enum Verdict {
-    TurnedDown(Refusal),
-    Passed(Values, Train),
-}
-
 // ---- ranges
 
 pub fn settings_in_range(o: Opening) -> bool
@@ -102,16 +89,6 @@ pub fn settings_of(o: Opening) -> Settings
             traction: o.traction,
         },
     }
-}
-
-// No request longer than the line can be granted, so its length is bounded by the line end.
-fn request_in_range(s: Settings, q: Asked) -> bool
-    ensures { λ r. ⌜ r ≡ requestInRange s q ⌝ }
-{
-    logic::both(
-        ranges::number_in_range(q.number),
-        ranges::in_range(1, s.end, q.length),
-    )
 }
 
 // ---- the limit
@@ -222,21 +199,20 @@ fn with_motion(x: Train, m: Motion, o: Order) -> Train
     }
 }
 
-// Hold and lift: the mark alone, which the next report reads.
-fn with_held(x: Train, held: bool) -> Train
-    ensures { λ r. ⌜ r ≡ holding x held ⌝ }
+// Whether the last order is brake.
+pub fn is_brake(o: Order) -> bool
+    ensures { λ r. ⌜ r ≡ isBrake o ⌝ }
 {
-    let mut s = x.marks;
-    s.held = held;
-    let mut y = x;
-    y.marks = s;
-    y
+    match o {
+        Order::Drive(_) => false,
+        Order::Brake => true,
+    }
 }
 
-// ---- report and call back
+// ---- report
 
 // Whether motion can be worked out from the record.
-fn is_computable(x: Train) -> bool
+pub fn is_computable(x: Train) -> bool
     ensures { λ r. ⌜ r ≡ computable x ⌝ }
 {
     let k = x.figures;
@@ -257,7 +233,7 @@ fn worst_of(x: Train) -> Motion
 }
 
 // A call back may not come before it.
-fn reach_of(x: Train) -> u64
+pub fn reach_of(x: Train) -> u64
     requires { ⌜ computable x ≡ true ⌝ }
     ensures { λ r. ⌜ r ≡ reachOf x ⌝ }
 {
@@ -292,7 +268,7 @@ fn motion_after(x: Train, r: Reading) -> Motion
 }
 
 // Refusal 9. A record that motion cannot be worked out from is refused too: no list of calls leaves one.
-fn report_allowed(s: Settings, x: Train, r: Reading) -> bool
+pub fn report_allowed(s: Settings, x: Train, r: Reading) -> bool
     ensures { λ b. ⌜ b ≡ reportAllowed s x r ⌝ }
 {
     if !is_computable(x) {
@@ -320,7 +296,7 @@ fn order_after(s: Settings, x: Train, m: Motion) -> Offer
 }
 
 // The record after a report that is allowed, and its reach, which the search for the order has found.
-fn report_on(s: Settings, x: Train, r: Reading) -> Reported
+pub fn report_on(s: Settings, x: Train, r: Reading) -> Reported
     requires { ⌜ reportAllowed s x r ≡ true ⌝ }
     ensures { λ y. ⌜ y ≡ withReach (reported s x r) ⌝ }
 {
@@ -330,141 +306,5 @@ fn report_on(s: Settings, x: Train, r: Reading) -> Reported
     Reported {
         train: with_motion(x, m, o),
         reach: given.reach,
-    }
-}
-
-// Judged from the reach, and not from the last head: the order given still counts.
-fn call_back_allowed(x: Train, place: u64) -> bool
-    ensures { λ r. ⌜ r ≡ callBackAllowed x place ⌝ }
-{
-    if !is_computable(x) {
-        return false;
-    }
-    let a = x.authority;
-    let reach = reach_of(x);
-    ranges::in_range(reach, a.end, place)
-}
-
-// The end moves, and the request number stays, so that a repeat still adds none.
-fn call_back_to(x: Train, place: u64) -> Train
-    ensures { λ r. ⌜ r ≡ calledBack x place ⌝ }
-{
-    let mut a = x.authority;
-    a.end = place;
-    let mut y = x;
-    y.authority = a;
-    y
-}
-
-// ---- extend
-
-// Refusal 11. The last accepted number itself is not old: it may be a repeat.
-fn is_old(a: Authority, q: Asked) -> bool
-    ensures { λ r. ⌜ r ≡ isOld a q ⌝ }
-{
-    if q.number <= a.start {
-        return true;
-    }
-    q.number < a.number
-}
-
-// A new request is granted: its length is added, and its number is the last accepted one.
-fn grant(x: Train, q: Asked) -> Train
-    requires { ⌜ x .authority .end + q .length < 2 ^ 64 ⌝ }
-    ensures { λ r. ⌜ r ≡ authorised x (granted (x .authority) q) ⌝ }
-{
-    let mut a = x.authority;
-    a.end = a.end + q.length;
-    a.number = q.number;
-    a.asked = q.length;
-    let mut y = x;
-    y.authority = a;
-    y
-}
-
-// ---- what each act comes to
-
-// Report: closes one cycle, and gets the order for the next.
-fn report(s: Settings, x: Train, r: Reading) -> Verdict
-    ensures { λ v. ⌜ v ≡ verdict (reporting s x r) ⌝ }
-{
-    if !report_allowed(s, x, r) {
-        return Verdict::TurnedDown(Refusal::NotAllowed);
-    }
-    let after = report_on(s, x, r);
-    let y = after.train;
-    let o = y.order;
-    Verdict::Passed(Values::Ordered(o, after.reach), y)
-}
-
-// Extend: a new number adds its length if the new end is within the limit, and the last accepted one again adds none.
-fn extend(s: Settings, limit: Limit, x: Train, q: Asked) -> Verdict
-    ensures { λ v. ⌜ v ≡ verdict (extending s limit x q) ⌝ }
-{
-    let a = x.authority;
-    let end = a.end;
-    let length = q.length;
-    if !request_in_range(s, q) {
-        return Verdict::TurnedDown(Refusal::BadRequest);
-    }
-    if is_old(a, q) {
-        return Verdict::TurnedDown(Refusal::OldNumber);
-    }
-    if q.number == a.number {
-        if length != a.asked {
-            return Verdict::TurnedDown(Refusal::OtherLength);
-        }
-        return Verdict::Passed(Values::Extended(end, true), x);
-    }
-    if !within(limit, end, length) {
-        return Verdict::TurnedDown(Refusal::NoTrack);
-    }
-    let y = grant(x, q);
-    let b = y.authority;
-    Verdict::Passed(Values::Extended(b.end, false), y)
-}
-
-// Call back: the end becomes a place from reach to end.
-fn call_back(x: Train, place: u64) -> Verdict
-    ensures { λ v. ⌜ v ≡ verdict (callingBack x place) ⌝ }
-{
-    if !call_back_allowed(x, place) {
-        return Verdict::TurnedDown(Refusal::BadPlace);
-    }
-    Verdict::Passed(Values::Zeros, call_back_to(x, place))
-}
-
-// An act of the train x with this limit. Hold is the emergency message, lift its withdrawal: both act from the next report on.
-pub fn decide(s: Settings, limit: Limit, x: Train, a: Act) -> Verdict
-    ensures { λ v. ⌜ v ≡ verdict (decision s limit x a) ⌝ }
-{
-    match a {
-        Act::Report(r) => report(s, x, r),
-        Act::Extend(q) => extend(s, limit, x, q),
-        Act::CallBack(place) => call_back(x, place),
-        Act::Hold => Verdict::Passed(Values::Zeros, with_held(x, true)),
-        Act::Lift => Verdict::Passed(Values::Zeros, with_held(x, false)),
-    }
-}
-
-// ---- take off
-
-// Refusal 15. Under drive a standing train may start in the coming cycle.
-pub fn may_leave(i: usize, x: Train) -> bool
-    ensures { λ r. ⌜ r ≡ mayLeave i x ⌝ }
-{
-    let k = x.figures;
-    let m = x.motion;
-    let o = x.order;
-    let standing = logic::both(i == 0, motion::standing(k, m.speed, m.level));
-    logic::both(standing, is_brake(o))
-}
-
-fn is_brake(o: Order) -> bool
-    ensures { λ r. ⌜ r ≡ isBrake o ⌝ }
-{
-    match o {
-        Order::Drive(_) => false,
-        Order::Brake => true,
     }
 }

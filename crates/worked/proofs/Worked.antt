@@ -11,10 +11,10 @@ use Rattle.motion.specs.Orders.{stoppingPlace, capFits, greatest, orderFor}
 use Rattle.motion.specs.Bounds.{inBounds}
 use Rattle.calls.specs.Checks.{firstOf}
 use Rattle.calls.specs.Requests.{allZero, readAs, requestOf}
-use Rattle.train.specs.Ranges.{settingsInRange, requestInRange}
+use Rattle.train.specs.Ranges.{settingsInRange}
 use Rattle.train.specs.Track.{stepsOf, limitBehind}
 use Rattle.train.specs.Report.{allowed, orderAfter, reported, computable, reportAllowed}
-use Rattle.train.specs.Acts.{isRepeat, extended, isOld, callBackAllowed, mayLeave}
+use Rattle.acts.specs.Acts.{requestInRange, isRepeat, extended, isOld, callBackAllowed, mayLeave}
 use Rattle.table.specs.Table.{placeIn, placeOf, aheadOf}
 use Rattle.line.specs.Decide.{openDecision, enterDecision, actDecision, takeOffDecision, decideOn}
 use Rattle.wire.specs.Format.{digit, column, columns, numbersIn, lineRead, left, text, textOf, answerText}

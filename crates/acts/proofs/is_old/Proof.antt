@@ -1,9 +1,9 @@
--- `train::is_old` meets its contract.
+-- `acts::is_old` meets its contract.
 -- Assumes nothing.
 use borrow.Author.Tests.{le-leb, lt-leb}
-use Rattle.train.specs.Acts.{isOld}
-use Rattle.train.proofs.is_old.Statement.{statement}
-use Rattle.train.proofs.is_old.Tie as tie
+use Rattle.acts.specs.Acts.{isOld}
+use Rattle.acts.proofs.is_old.Statement.{statement}
+use Rattle.acts.proofs.is_old.Tie as tie
 
 returns : tie.Need-returns
 unfolding isOld

@@ -1,11 +1,11 @@
--- `train::call_back_allowed` meets its contract.
+-- `acts::call_back_allowed` meets its contract.
 -- Assumes nothing.
 use mathlib.Core.Path.{sym, _∙_}
 use borrow.Author.Tests.{not-true, not-false}
-use Rattle.train.specs.Acts.{callBackAllowed}
+use Rattle.acts.specs.Acts.{callBackAllowed}
 use borrow.Author.Needs.{needs}
-use Rattle.train.proofs.call_back_allowed.Statement.{statement}
-use Rattle.train.proofs.call_back_allowed.Tie as tie
+use Rattle.acts.proofs.call_back_allowed.Statement.{statement}
+use Rattle.acts.proofs.call_back_allowed.Tie as tie
 
 returns : tie.Need-returns
 unfolding callBackAllowed

@@ -1,14 +1,13 @@
--- `train::extend` meets its contract.
+-- `acts::extend` meets its contract.
 -- Assumes nothing.
 use mathlib.Core.Bool.{true, false}
 use mathlib.Core.Path.{_≡_, sym, _∙_}
 use borrow.Author.Tests.{not-true, not-false}
 use borrow.Author.Needs.{needs}
-use Rattle.train.specs.Ranges.{requestInRange}
-use Rattle.train.specs.Acts.{isOld}
-use Rattle.train.proofs.Verdicts.{extend-bad, extend-old, extend-other, extend-repeat, extend-beyond, extend-new}
-use Rattle.train.proofs.extend.Statement.{statement}
-use Rattle.train.proofs.extend.Tie as tie
+use Rattle.acts.specs.Acts.{requestInRange, isOld}
+use Rattle.acts.proofs.Verdicts.{extend-bad, extend-old, extend-other, extend-repeat, extend-beyond, extend-new}
+use Rattle.acts.proofs.extend.Statement.{statement}
+use Rattle.acts.proofs.extend.Tie as tie
 
 returns : tie.Need-returns
 returns c = let a = c .before .before .before .args in sym (extend-bad (a .s) (a .x) (a .limit) (a .q) (sym (c .before .request-in-range .ensures) ∙ not-true _ (c .if1 .taken)))

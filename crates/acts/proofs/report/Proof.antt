@@ -1,13 +1,13 @@
--- `train::report` meets its contract.
+-- `acts::report` meets its contract.
 -- Assumes nothing.
 use mathlib.Core.Bool.{true}
 use mathlib.Core.Path.{_≡_, sym, _∙_}
 use borrow.Author.Tests.{not-true, not-false}
 use borrow.Author.Needs.{needs}
 use Rattle.train.specs.Report.{reportAllowed}
-use Rattle.train.proofs.Verdicts.{report-refused, report-taken}
-use Rattle.train.proofs.report.Statement.{statement}
-use Rattle.train.proofs.report.Tie as tie
+use Rattle.acts.proofs.Verdicts.{report-refused, report-taken}
+use Rattle.acts.proofs.report.Statement.{statement}
+use Rattle.acts.proofs.report.Tie as tie
 
 returns : tie.Need-returns
 returns c = sym (report-refused _ _ _ (sym (c .before .report-allowed .ensures) ∙ not-true _ (c .if1 .taken)))

@@ -1,16 +1,19 @@
 -- Document 01, "Authorities": what each call does to the train that it names.
 use Prim.Native.Nat.{ℕ, _+_}
-use mathlib.Core.Bool.{Bool, true, false, cond, _&&_, _||_}
+use mathlib.Core.Bool.{Bool, cond, _&&_, _||_}
 use lib.Dec.{leb, ltb, eqb}
-use Rattle.ranges.specs.Ranges.{between}
-use Rattle.motion.specs.declared.Order.{Order}
-use Rattle.motion.specs.declared.Order.the-variants.{Drive, Brake}
+use Rattle.ranges.specs.Ranges.{between, numberInRange}
 use Rattle.motion.specs.Motion.{stands}
 use Rattle.calls.specs.declared.Asked.{Asked}
+use Rattle.train.specs.declared.Settings.{Settings}
 use Rattle.train.specs.declared.Authority.{Authority}
 use Rattle.train.specs.declared.Train.{Train}
-use Rattle.train.specs.Record.{authorised, marked, withHeld}
+use Rattle.train.specs.Record.{authorised, marked, withHeld, isBrake}
 use Rattle.train.specs.Report.{reachOf, computable}
+
+-- a request: its number, and its length from 1 to the line end
+unfoldable pub requestInRange : Settings → Asked → Bool
+requestInRange σ q = numberInRange (q .number) && between 1 (σ .end) (q .length)
 
 -- a request whose number is at or below the starting number, or below the last accepted
 unfoldable pub isOld : Authority → Asked → Bool
@@ -44,9 +47,5 @@ abbrev pub holding : Train → Bool → Train
 holding x b = marked x (withHeld (x .marks) b)
 
 -- Take off: the first train, standing under brake
-abbrev pub isBrake : Order → Bool
-isBrake (Drive c) = false
-isBrake Brake = true
-
 unfoldable pub mayLeave : ℕ → Train → Bool
 mayLeave i x = eqb i 0 && stands (x .figures) (x .motion .speed) (x .motion .level) && isBrake (x .order)

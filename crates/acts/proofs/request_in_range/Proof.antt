@@ -1,9 +1,9 @@
--- `train::request_in_range` meets its contract.
+-- `acts::request_in_range` meets its contract.
 -- Assumes nothing.
-use Rattle.train.specs.Ranges.{requestInRange}
+use Rattle.acts.specs.Acts.{requestInRange}
 use borrow.Author.Needs.{needs}
-use Rattle.train.proofs.request_in_range.Statement.{statement}
-use Rattle.train.proofs.request_in_range.Tie as tie
+use Rattle.acts.proofs.request_in_range.Statement.{statement}
+use Rattle.acts.proofs.request_in_range.Tie as tie
 
 returns : tie.Need-returns
 unfolding requestInRange

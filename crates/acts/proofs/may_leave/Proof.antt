@@ -1,9 +1,9 @@
--- `train::may_leave` meets its contract.
+-- `acts::may_leave` meets its contract.
 -- Assumes nothing.
-use Rattle.train.specs.Acts.{mayLeave}
+use Rattle.acts.specs.Acts.{mayLeave}
 use borrow.Author.Needs.{needs}
-use Rattle.train.proofs.may_leave.Statement.{statement}
-use Rattle.train.proofs.may_leave.Tie as tie
+use Rattle.acts.proofs.may_leave.Statement.{statement}
+use Rattle.acts.proofs.may_leave.Tie as tie
 
 returns : tie.Need-returns
 unfolding mayLeave

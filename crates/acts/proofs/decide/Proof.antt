@@ -1,9 +1,9 @@
--- `train::decide` meets its contract.
+-- `acts::decide` meets its contract.
 -- Assumes nothing.
 use Rattle.calls.specs.Checks.{firstOf}
 use borrow.Author.Needs.{needs}
-use Rattle.train.proofs.decide.Statement.{statement}
-use Rattle.train.proofs.decide.Tie as tie
+use Rattle.acts.proofs.decide.Statement.{statement}
+use Rattle.acts.proofs.decide.Tie as tie
 
 returns : tie.Need-returns
 returns c = rw (c .before .before .a .given .1) (c .report .ensures)

@@ -1,11 +1,11 @@
--- `train::call_back` meets its contract.
+-- `acts::call_back` meets its contract.
 -- Assumes nothing.
 use mathlib.Core.Path.{sym, _∙_}
 use borrow.Author.Tests.{not-true, not-false}
 use borrow.Author.Needs.{needs}
-use Rattle.train.proofs.Verdicts.{call-back-refused, call-back-taken}
-use Rattle.train.proofs.call_back.Statement.{statement}
-use Rattle.train.proofs.call_back.Tie as tie
+use Rattle.acts.proofs.Verdicts.{call-back-refused, call-back-taken}
+use Rattle.acts.proofs.call_back.Statement.{statement}
+use Rattle.acts.proofs.call_back.Tie as tie
 
 returns : tie.Need-returns
 returns c = sym (call-back-refused _ _ (sym (c .before .call-back-allowed .ensures) ∙ not-true _ (c .if1 .taken)))

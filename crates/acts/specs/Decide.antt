@@ -13,15 +13,14 @@ use Rattle.calls.specs.declared.Refusal.the-variants.{NotAllowed, BadRequest, O
 use Rattle.calls.specs.declared.Values.{Values}
 use Rattle.calls.specs.declared.Values.the-variants.{Ordered, Extended, Zeros}
 use Rattle.calls.specs.Checks.{Check, check, firstOf}
 use Rattle.train.specs.declared.Settings.{Settings}
 use Rattle.train.specs.declared.Train.{Train}
 use Rattle.train.specs.declared.Limit.{Limit}
-use Rattle.train.specs.declared.Verdict.{Verdict}
-use Rattle.train.specs.declared.Verdict.the-variants.{TurnedDown, Passed}
-use Rattle.train.specs.Ranges.{requestInRange}
+use Rattle.acts.specs.declared.Verdict.{Verdict}
+use Rattle.acts.specs.declared.Verdict.the-variants.{TurnedDown, Passed}
 use Rattle.train.specs.Track.{withinLimit}
 use Rattle.train.specs.Report.{reachOf, reported, reportAllowed}
-use Rattle.train.specs.Acts.{isRepeat, isOld, extended, callBackAllowed, calledBack, holding}
+use Rattle.acts.specs.Acts.{requestInRange, isRepeat, isOld, extended, callBackAllowed, calledBack, holding}
 
 -- the checks of an act in the order in which they run; where none applies, what it gives and the record after it
 pub record Ruling : Type 0 where

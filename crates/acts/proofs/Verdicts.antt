@@ -9,17 +9,16 @@ use Rattle.calls.specs.declared.Asked.{Asked}
 use Rattle.calls.specs.declared.Refusal.the-variants.{NotAllowed, BadRequest, OldNumber, OtherLength, NoTrack, BadPlace}
 use Rattle.calls.specs.declared.Values.the-variants.{Ordered, Extended, Zeros}
 use Rattle.calls.specs.Checks.{firstOf}
 use Rattle.train.specs.declared.Settings.{Settings}
 use Rattle.train.specs.declared.Authority.{Authority}
 use Rattle.train.specs.declared.Train.{Train}
 use Rattle.train.specs.declared.Limit.{Limit}
-use Rattle.train.specs.declared.Verdict.the-variants.{TurnedDown, Passed}
-use Rattle.train.specs.Ranges.{requestInRange}
+use Rattle.acts.specs.declared.Verdict.the-variants.{TurnedDown, Passed}
 use Rattle.train.specs.Record.{authorised}
 use Rattle.train.specs.Track.{withinLimit}
 use Rattle.train.specs.Report.{reachOf, reported, reportAllowed}
-use Rattle.train.specs.Acts.{isRepeat, isOld, granted, extended, calledBack, callBackAllowed}
-use Rattle.train.specs.Decide.{reporting, extending, callingBack, verdict}
+use Rattle.acts.specs.Acts.{requestInRange, isRepeat, isOld, granted, extended, calledBack, callBackAllowed}
+use Rattle.acts.specs.Decide.{reporting, extending, callingBack, verdict}
 
 module _ (σ : Settings) (x : Train) where
   -- ---- report
