@@ -41,7 +41,7 @@ use Rattle.train.proofs.Records.{held-brakes}
 use Rattle.train.proofs.Track.{InLimit, limit-tested, limit-below}
 use Rattle.train.proofs.Checks.{report-allowed, allowed-head, allowed-no-worse}
 use Rattle.acts.proofs.Checks.{call-back-allowed}
-use Rattle.safety.specs.History.{Told, levelAfter, orderIn, longer, still, toldAct}
+use Rattle.safety.specs.History.{Counts, Told, levelAfter, orderIn, longer, still, toldAct}
 use Rattle.safety.specs.Claim.{recordOf}
 use Rattle.safety.proofs.Train.{Guarded, guarded-report, guarded-still}
 
@@ -56,7 +56,7 @@ Slowing σ x (some (suc n)) = (x .order ≡ Brake) × Slowed (x .figures) (σ .l
 pub record Steady (σ : Settings) (limit : Limit) (x : Told) : Type 0 where
   pub consist : figuresOf (x .entry .load) (x .entry .length) ≡ Given (x .figures)
   pub guarded : Guarded σ limit (recordOf x)
-  pub slowing : Slowing σ (recordOf x) (x .now .held)
+  pub slowing : Slowing σ (recordOf x) (x .now .counts .held)
 
 -- ---- the record that a report tells of
 
@@ -99,7 +99,7 @@ module _ (σ : Settings) (limit : Limit) (x : Told) (steady : Steady σ limit x)
 
   -- ---- a report
 
-  slowing-report : (r : Reading) → allowed (recordOf x) r ≡ true → (o : Option ℕ) → x .now .held ≡ o
+  slowing-report : (r : Reading) → allowed (recordOf x) r ≡ true → (o : Option ℕ) → x .now .counts .held ≡ o
       → Slowing σ (reported σ (recordOf x) r) (Option·map suc o)
   unfolding reported recordOf
   slowing-report r e none held = tt
@@ -115,14 +115,14 @@ module _ (σ : Settings) (limit : Limit) (x : Told) (steady : Steady σ limit x)
 
   -- ---- where motion and order stay
 
-  abbrev stays : Authority → Option ℕ → Told
+  abbrev stays : Authority → Counts → Told
   stays a n = record { entry = x .entry; figures = x .figures; now = still (x .now) a n }
 
-  steady-still : (a : Authority) (n : Option ℕ) → InLimit limit (a .end) → reachOf (recordOf x) ≤ a .end → Slowing σ (recordOf x) n → Steady σ limit (stays a n)
+  steady-still : (a : Authority) (n : Counts) → InLimit limit (a .end) → reachOf (recordOf x) ≤ a .end → Slowing σ (recordOf x) (n .held) → Steady σ limit (stays a n)
   unfolding recordOf
-  steady-still a n limited reach slow = record { consist = steady .consist; guarded = guarded-still σ limit (recordOf x) (steady .guarded) a _ limited reach; slowing = go n slow }
+  steady-still a n limited reach slow = record { consist = steady .consist; guarded = guarded-still σ limit (recordOf x) (steady .guarded) a _ limited reach; slowing = go (n .held) slow }
     where
-      go : (n : Option ℕ) → Slowing σ (recordOf x) n → Slowing σ (recordOf (stays a n)) n
+      go : (c : Option ℕ) → Slowing σ (recordOf x) c → Slowing σ (recordOf (stays a n)) c
       go none slow = tt
       go (some zero) slow = tt
       go (some (suc n)) slow = slow
@@ -145,11 +145,11 @@ module _ (σ : Settings) (limit : Limit) (x : Told) (steady : Steady σ limit x)
   unfolding recordOf toldAct reported extended isRepeat
   act-kept (Report r) e =
       let allows = report-allowed σ (recordOf x) r (passed _ _ _ e .0) in
-      let same : recordOf (afterAct (Report r)) ≡ reported σ (recordOf x) r = rw (order-told, level-worst (x .figures) (recordOf x .motion) (x .now .order), still-held (x .now .held)) in
+      let same : recordOf (afterAct (Report r)) ≡ reported σ (recordOf x) r = rw (order-told, level-worst (x .figures) (recordOf x .motion) (x .now .order), still-held (x .now .counts .held)) in
       let g = guarded-report σ limit (recordOf x) (steady .guarded) r allows in
       record {
         told = same;
-        keeps = record { consist = steady .consist; guarded = rw same g; slowing = rw same (slowing-report r allows (x .now .held) refl) };
+        keeps = record { consist = steady .consist; guarded = rw same g; slowing = rw same (slowing-report r allows (x .now .counts .held) refl) };
         onward = allowed-head (recordOf x) r allows;
         within = (g .within .cap, g .reach-in-end);
       }
@@ -160,7 +160,7 @@ module _ (σ : Settings) (limit : Limit) (x : Told) (steady : Steady σ limit x)
       let reach = steady .guarded .reach-in-end in
       record {
         told = by-test (eqb (q .number) (x .now .authority .number)) (λ e. rw e) (λ e. rw e);
-        keeps = steady-still a (x .now .held) limited (omega arith) (steady .slowing);
+        keeps = steady-still a (x .now .counts) limited (omega arith) (steady .slowing);
         onward = le-refl _;
         within = le-refl _;
       }
@@ -168,7 +168,7 @@ module _ (σ : Settings) (limit : Limit) (x : Told) (steady : Steady σ limit x)
       let (low, high) = call-back-allowed (recordOf x) p (passed _ _ _ e .0) in
       record {
         told = refl;
-        keeps = steady-still (endingAt (x .now .authority) p) (x .now .held) (limit-below limit high (steady .guarded .end-in-limit)) low (steady .slowing);
+        keeps = steady-still (endingAt (x .now .authority) p) (x .now .counts) (limit-below limit high (steady .guarded .end-in-limit)) low (steady .slowing);
         onward = le-refl _;
         within = tt;
       }
@@ -176,10 +176,10 @@ module _ (σ : Settings) (limit : Limit) (x : Told) (steady : Steady σ limit x)
       let g = steady .guarded in
       record {
         told = refl;
-        keeps = steady-still (x .now .authority) (some (Option·getD (x .now .held) 0)) (g .end-in-limit) (g .reach-in-end) (slowing-hold (x .now .held) (steady .slowing));
+        keeps = steady-still (x .now .authority) (record { held = some (Option·getD (x .now .counts .held) 0) }) (g .end-in-limit) (g .reach-in-end) (slowing-hold (x .now .counts .held) (steady .slowing));
         onward = le-refl _;
         within = tt;
       }
   act-kept Lift e =
       let g = steady .guarded in
-      record { told = refl; keeps = steady-still (x .now .authority) none (g .end-in-limit) (g .reach-in-end) tt; onward = le-refl _; within = tt }
+      record { told = refl; keeps = steady-still (x .now .authority) (record { held = none }) (g .end-in-limit) (g .reach-in-end) tt; onward = le-refl _; within = tt }

@@ -18,7 +18,7 @@ use Rattle.calls.specs.declared.Answer.the-variants.{Accepted}
 use Rattle.calls.specs.declared.Values.the-variants.{Zeros}
 use Rattle.line.specs.Step.{outcome, openStep}
 use Rattle.safety.specs.History.{history, Told, told, rearOf}
-use Rattle.safety.specs.Claim.{heldReports, Stands, Alone, Separate, Clear, Safe, Claim, recordOf, Demand3}
+use Rattle.safety.specs.Claim.{countedReports, Stands, Alone, Separate, Clear, Safe, Claim, recordOf, Demand3}
 use Rattle.safety.proofs.Train.{guarded-head}
 use Rattle.safety.proofs.Acts.{Slowing, Steady}
 use Rattle.safety.proofs.Line.{Lined, firstLimit, behind}
@@ -30,7 +30,7 @@ module _ (o : Opening) (limit : Limit) (x : Told) (t : Steady (settingsOf o) lim
   unfolding recordOf
   head-end = guarded-head (settingsOf o) limit (recordOf x) (t .guarded)
 
-  held-stands : (n : ℕ) → x .now .held ≡ some n → heldReports o x ≤ n → Stands x
+  held-stands : (n : ℕ) → x .now .counts .held ≡ some n → countedReports o x ≤ n → Stands x
   unfolding recordOf
   held-stands zero e enough = absurd (omega arith)
   held-stands (suc n) e enough =

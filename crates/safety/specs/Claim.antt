@@ -21,9 +21,9 @@ use Rattle.table.specs.declared.Table.{Table}
 use Rattle.table.specs.Table.{onLine}
 use Rattle.safety.specs.History.{Event, history, after, Told, told, rearOf}
 
--- 1 + B/j + V/B, both rounded up
-abbrev pub heldReports : Opening → Told → ℕ
-heldReports o x = 1 + cyclesToStand (x .figures) (o .ceiling)
+-- the reports that document 01 counts: 1 + B/j + V/B, both rounded up
+abbrev pub countedReports : Opening → Told → ℕ
+countedReports o x = 1 + cyclesToStand (x .figures) (o .ceiling)
 
 abbrev pub Stands : Told → Type 0
 Stands x = stands (x .figures) (x .now .speed) (x .now .level) ≡ true
@@ -34,7 +34,7 @@ pub record Alone (o : Opening) (x : Told) : Type 0 where
   pub consist : figuresOf (x .entry .load) (x .entry .length) ≡ Given (x .figures)
   pub rear-on-line : stepsOf (x .entry .length) ≤ x .now .head
   pub head-within-end : x .now .head ≤ x .now .authority .end
-  pub held-stands : (n : ℕ) → x .now .held ≡ some n → heldReports o x ≤ n → Stands x
+  pub held-stands : (n : ℕ) → x .now .counts .held ≡ some n → countedReports o x ≤ n → Stands x
 
 -- its end lies at least the safety distance behind the rear ahead; that of the first train is at most the line end
 abbrev pub Separate : Opening → Option Told → Told → Type 0
@@ -60,7 +60,7 @@ Claim o es = Safe o none (told es)
 unfoldable pub recordOf : Told → Train
 recordOf x =
     trainOf (x .entry .id) (x .entry .length) (x .figures) (record { head = x .now .head; speed = x .now .speed; level = x .now .level })
-    (x .now .order) (x .now .authority) (record { held = isSome (x .now .held) })
+    (x .now .order) (x .now .authority) (record { held = isSome (x .now .counts .held) })
 
 -- Demand 3 for one list of calls on the table t that the opening o made: the claim holds of the history, and the table after it is what
 -- the history tells (proofs/Demand3: demand-3).

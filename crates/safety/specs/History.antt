@@ -41,6 +41,15 @@ isAccepted e = eqb (e .answer .number) 0
 
 -- ---- a train on the line
 
+-- what is counted in its reports
+pub record Counts : Type 0 where
+  -- held: those since the first hold that no lift follows
+  pub held : Option ℕ
+
+-- not held
+abbrev pub freshCounts : Counts
+freshCounts = record { held = none }
+
 -- what its entering and its accepted acts since tell of it by now
 pub record State : Type 0 where
   -- head and speed of its last report
@@ -50,8 +59,7 @@ pub record State : Type 0 where
   pub level : ℕ
   pub order : Order
   pub authority : Authority
-  -- held: the reports since the first hold that no lift follows
-  pub held : Option ℕ
+  pub counts : Counts
 
 -- a train: what was entered, its brake figures, and its state by now
 pub record Told : Type 0 where
@@ -59,14 +67,14 @@ pub record Told : Type 0 where
   pub figures : Figures
   pub now : State
 
-abbrev pub stateOf : ℕ → ℕ → ℕ → Order → Authority → Option ℕ → State
-stateOf h v l o a n = record { head = h; speed = v; level = l; order = o; authority = a; held = n }
+abbrev pub stateOf : ℕ → ℕ → ℕ → Order → Authority → Counts → State
+stateOf h v l o a n = record { head = h; speed = v; level = l; order = o; authority = a; counts = n }
 
 -- Enter is answered with B and j. The train stands at its head under full brake, has no other track, and is not held.
 abbrev pub toldEntering : Entry → Numbers → Told
 toldEntering e r =
     let a : Authority = record { end = e .head; start = e .start; number = e .start; asked = 0 } in
-    record { entry = e; figures = record { full = r .first; growth = r .second }; now = stateOf (e .head) 0 (r .first) Brake a none }
+    record { entry = e; figures = record { full = r .first; growth = r .second }; now = stateOf (e .head) 0 (r .first) Brake a freshCounts }
 
 -- 0 after a driven cycle, the next level after a braked one
 abbrev pub levelAfter : Figures → Order → ℕ → ℕ
@@ -82,19 +90,20 @@ abbrev pub longer : Authority → Asked → Authority
 longer a q =
     cond (eqb (q .number) (a .number)) a (record { end = a .end + q .length; start = a .start; number = q .number; asked = q .length })
 
--- another authority, or another count
-abbrev pub still : State → Authority → Option ℕ → State
+-- another authority, or other counts
+abbrev pub still : State → Authority → Counts → State
 still s a n = stateOf (s .head) (s .speed) (s .level) (s .order) a n
 
 -- the state s of a train with figures k, after an accepted act with its answer
 unfoldable pub toldAct : Figures → State → Numbers → Act → State
-toldAct k s n (Report r) = stateOf (r .head) (r .speed) (levelAfter k (s .order) (s .level)) (orderIn n) (s .authority) (Option·map suc (s .held))
-toldAct k s n (Extend q) = still s (longer (s .authority) q) (s .held)
+toldAct k s n (Report r) =
+    stateOf (r .head) (r .speed) (levelAfter k (s .order) (s .level)) (orderIn n) (s .authority) (record { held = Option·map suc (s .counts .held) })
+toldAct k s n (Extend q) = still s (longer (s .authority) q) (s .counts)
 toldAct k s n (CallBack p) =
-    still s (record { end = p; start = s .authority .start; number = s .authority .number; asked = s .authority .asked }) (s .held)
+    still s (record { end = p; start = s .authority .start; number = s .authority .number; asked = s .authority .asked }) (s .counts)
 -- held already, it goes on counting
-toldAct k s n Hold = still s (s .authority) (some (Option·getD (s .held) 0))
-toldAct k s n Lift = still s (s .authority) none
+toldAct k s n Hold = still s (s .authority) (record { held = some (Option·getD (s .counts .held) 0) })
+toldAct k s n Lift = still s (s .authority) (record { held = none })
 
 -- ---- the trains on the line, in the order of entering
 

@@ -12,7 +12,7 @@ use Rattle.calls.specs.declared.Call.the-variants.{Enter, Own, TakeOff}
 use Rattle.calls.specs.Answers.{numbers}
 use Rattle.line.specs.Step.{openStep}
 use Rattle.safety.specs.History.{Event, history, Told, told, rearOf}
-use Rattle.safety.specs.Claim.{heldReports}
+use Rattle.safety.specs.Claim.{countedReports}
 
 abbrev pub enter : ℕ → ℕ → ℕ → ℕ → ℕ → Call
 enter id h l load s = Enter (record { id = id; head = h; length = l; load = load; start = s })
@@ -68,7 +68,7 @@ wordsOf x =
       speed = x .now .speed;
       rear = rearOf x;
       end = x .now .authority .end;
-      held = x .now .held;
+      held = x .now .counts .held;
     }
 
 abbrev pub wordsAfter : Opening → List Call → List Words
@@ -93,7 +93,7 @@ loadedEnters = said (enter 7 14295120000 2345 1 0) 133303 263 14295120000
 -- 1 + 507 + 202
 abbrev pub heldCount : List Told → ℕ
 heldCount [] = 0
-heldCount (x ∷ xs) = heldReports sessionLine x
+heldCount (x ∷ xs) = countedReports sessionLine x
 
 -- its head is past its end, by one step
 abbrev pub headPastEnd : List Event
