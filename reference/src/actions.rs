@@ -21,10 +21,11 @@ impl Scene {
             61..=71 => self.call_some_back(),
             72..=75 => self.name_one(|id| Call::Hold { id }),
             76..=81 => self.name_one(|id| Call::Lift { id }),
-            82..=85 => self.brake_and_release(),
-            86..=89 => self.stop_and_take_off(),
-            90..=91 => self.name_one(|id| Call::TakeOff { id }),
-            92..=98 => self.let_in(),
+            82..=84 => self.brake_and_release(),
+            85..=88 => self.brake_one(),
+            89..=91 => self.stop_and_take_off(),
+            92 => self.name_one(|id| Call::TakeOff { id }),
+            93..=98 => self.let_in(),
             _ => self.name_a_stranger(),
         }
     }
@@ -62,7 +63,11 @@ impl Scene {
     fn report_less(&mut self, train: &Train) {
         let worst = self.worst(train);
         let head = self.random.between(train.motion.head, worst.head);
-        let speed = self.random.between(0, worst.speed);
+        let speed = match self.random.below(8) {
+            0 => 0,
+            1 => worst.speed.min(self.random.scaled(1000)),
+            _ => self.random.between(0, worst.speed),
+        };
         self.report(train, head, speed);
     }
 
@@ -170,6 +175,101 @@ impl Scene {
         }
     }
 
+    /// Brings one train to brake while it moves, and disturbs it meanwhile.
+    fn brake_one(&mut self) {
+        let Some((index, _)) = self.pick() else {
+            return self.let_in();
+        };
+        self.run_to_a_brake(index);
+        for _ in 0..self.random.below(5) {
+            self.disturb(index);
+            let reports = self.random.scaled(12) - 1;
+            self.run_at_worst(index, reports);
+        }
+        self.stop_at_once(index);
+        let reports = self.random.below(6);
+        self.run_at_worst(index, reports);
+    }
+
+    /// Brings all trains to brake while they move, and disturbs them, now this
+    /// one and now that. About half of them stand then.
+    pub fn brake_all(&mut self) {
+        let count = self.trains().len();
+        for index in 0..count {
+            self.give_track(index);
+            self.run_to_a_brake(index);
+        }
+        for _ in 0..self.random.scaled(40) {
+            let Some((index, _)) = self.pick() else {
+                return;
+            };
+            if self.random.once_in(2) {
+                self.disturb(index);
+            }
+            let reports = self.random.below(4);
+            self.run_at_worst(index, reports);
+        }
+        for index in 0..count {
+            self.stop_at_once(index);
+        }
+    }
+
+    /// Runs a train until it brakes while it moves, for want of track or held, or
+    /// for so many reports.
+    fn run_to_a_brake(&mut self, index: usize) {
+        let reports = self.random.scaled(60);
+        for count in 0..reports {
+            let Some(train) = self.train(index).filter(|train| !train.penalty) else {
+                return;
+            };
+            if count == reports / 2 && self.random.once_in(3) {
+                self.call(Call::Hold { id: train.id });
+            }
+            self.run_at_worst(index, 1);
+        }
+    }
+
+    /// What must not end the brake of a moving train.
+    fn disturb(&mut self, index: usize) {
+        let Some(train) = self.train(index) else {
+            return;
+        };
+        let id = train.id;
+        match self.random.below(6) {
+            0 => self.call(Call::Hold { id }),
+            1 => self.call(Call::Lift { id }),
+            2 => {
+                self.call(Call::Hold { id });
+                self.call(Call::Lift { id });
+            }
+            3 => self.call_back(&train),
+            _ => self.give_track(index),
+        }
+    }
+
+    /// A piece of what track there is.
+    fn give_track(&mut self, index: usize) {
+        let Some(train) = self.train(index) else {
+            return;
+        };
+        let free = self.limit(index).saturating_sub(train.end);
+        let length = self.piece(free.max(1));
+        self.extend(&train, train.number + 1, length);
+    }
+
+    /// A report at or near a stand: slow, still slower, then standing.
+    fn stop_at_once(&mut self, index: usize) {
+        for slowest in [1000, 1, 0] {
+            let Some(train) = self.train(index) else {
+                return;
+            };
+            if self.random.once_in(2) {
+                let worst = self.worst(&train);
+                self.report(&train, worst.head, worst.speed.min(slowest));
+            }
+        }
+    }
+
     /// Brings the first train to a stand under brake and takes it off. It is
     /// tried at each stage, since only the last one is allowed.
     pub fn stop_and_take_off(&mut self) {
@@ -204,10 +304,14 @@ impl Scene {
         self.run_at_worst(index, reports);
         let count = train.brake.held_count(settings.ceiling);
         let again = self.random.between(1, count);
-        for reports in [again, count + 3 - again] {
-            self.call(Call::Hold { id: train.id });
-            self.run_at_worst(index, reports);
-        }
+        let id = train.id;
+        self.call(Call::Hold { id });
+        self.run_at_worst(index, again);
+        // A second hold does not begin the count again, and a lift does not end
+        // the brake.
+        let call = self.random.pick(&[Call::Hold { id }, Call::Lift { id }]);
+        self.call(call);
+        self.run_at_worst(index, count + 3 - again);
     }
 
     /// An entering behind the last train, at or near its limit.

@@ -2,7 +2,7 @@
 //! figures of the ranges.
 
 use crate::brake::{LONGEST_FEET, STEPS_PER_FOOT};
-use crate::call::{Call, Entry, Settings};
+use crate::call::{Entry, Settings};
 use crate::convoy::Convoy;
 use crate::line::{GREATEST_CEILING, GREATEST_TRACTION, LONGEST_LINE};
 use crate::motion::Order;
@@ -44,24 +44,17 @@ pub fn realistic(trains: usize, count: usize) -> Measured {
 
 /// The longest train of class 3 reports high speed on a free line.
 pub fn worst_free(count: usize) -> Measured {
-    let mut scene = fast_scene();
+    let mut scene = fast_scene(LONGEST_LINE);
     measure_reports(&mut scene, count)
 }
 
 /// The same train, with an end that only half of the traction fits, so that
-/// every report has to search for the cap.
+/// every report has to search for the cap. It comes to speed as on a free line,
+/// since less was in its reach on the way.
 pub fn worst_bound(count: usize) -> Measured {
-    let mut scene = fast_scene();
-    let train = scene.trains()[0];
-    let (id, speed) = (train.id, train.motion.speed);
-    // Under brake the reach is short enough for the call back.
-    scene.call(Call::Hold { id });
-    scene.report(&train, train.motion.head, speed);
-    let train = scene.trains()[0];
+    let train = fast_scene(LONGEST_LINE).trains()[0];
     let half = Order::Drive(GREATEST_TRACTION / 2 + 1);
-    let place = train.motion.reach(half, train.brake);
-    scene.call(Call::CallBack { id, place });
-    scene.call(Call::Lift { id });
+    let mut scene = fast_scene(train.motion.reach(half, train.brake));
     measure_reports(&mut scene, count)
 }
 
@@ -74,9 +67,9 @@ fn scene() -> Scene {
     Scene::new(1, profile)
 }
 
-/// One train that has just come to the greatest speed at which the whole
-/// traction may still be used.
-fn fast_scene() -> Scene {
+/// One train with this end that has just come to the greatest speed at which the
+/// whole traction may still be used.
+fn fast_scene(end: u64) -> Scene {
     let mut scene = scene();
     scene.open(Settings {
         line_end: LONGEST_LINE,
@@ -93,7 +86,7 @@ fn fast_scene() -> Scene {
         start: 0,
     });
     let train = scene.trains()[0];
-    scene.extend(&train, 1, LONGEST_LINE - head);
+    scene.extend(&train, 1, end - head);
     while scene.trains()[0].motion.speed < GREATEST_CEILING - GREATEST_TRACTION {
         let train = scene.trains()[0];
         scene.report_worst(&train);

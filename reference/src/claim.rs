@@ -15,13 +15,43 @@ pub struct Broken {
     pub why: String,
 }
 
-/// How far a history tested the claim about held trains.
+/// How far a history tested the claims about held and braked trains.
 #[derive(Clone, Copy, Debug, Default, PartialEq, Eq)]
 pub struct Reached {
     /// Holds that lasted for the counted reports.
     pub holds: u64,
     /// Those of them that found the train moving.
     pub moving: u64,
+    pub penalties: Penalties,
+}
+
+/// Brakes of moving trains, each until the train stands.
+#[derive(Clone, Copy, Debug, Default, PartialEq, Eq)]
+pub struct Penalties {
+    /// Begun for want of track, with no hold.
+    pub without_hold: u64,
+    /// Begun under a hold.
+    pub under_hold: u64,
+    /// Ended by a stand.
+    pub stood: u64,
+    /// New track for a train under such a brake.
+    pub extended: u64,
+    /// Lifts of a hold from one.
+    pub lifted: u64,
+    /// The most trains under one at a time.
+    pub together: u64,
+}
+
+impl Penalties {
+    /// Those of another list.
+    pub fn add(&mut self, other: Penalties) {
+        self.without_hold += other.without_hold;
+        self.under_hold += other.under_hold;
+        self.stood += other.stood;
+        self.extended += other.extended;
+        self.lifted += other.lifted;
+        self.together = self.together.max(other.together);
+    }
 }
 
 /// Checks the claim after every line of a session, and its answer.
@@ -47,6 +77,10 @@ struct Stay {
     end: u64,
     number: u64,
     held: Option<Held>,
+    /// Reports since the one that ordered brake while the train moved, that one
+    /// included; none once it has stood.
+    braked: Option<u64>,
+    /// The reports after which a held or braked train stands.
     held_count: u64,
 }
 
@@ -89,6 +123,28 @@ impl Stay {
         let held = self.held.as_mut()?;
         held.reports += 1;
         (held.reports == self.held_count).then_some(held.moving)
+    }
+
+    /// Counts a report of a train that was braked while it moved. A stand ends
+    /// the count.
+    fn count_braked(&mut self, reached: &mut Penalties) {
+        if self.motion.speed > 0 {
+            self.braked = self.braked.map(|reports| reports + 1);
+        } else if self.braked.take().is_some() {
+            reached.stood += 1;
+        }
+    }
+
+    /// Begins that count, where the report was answered with brake.
+    fn begin_braked(&mut self, reached: &mut Penalties) {
+        if self.motion.speed == 0 || self.order != Order::Brake || self.braked.is_some() {
+            return;
+        }
+        self.braked = Some(1);
+        match self.held {
+            Some(_) => reached.under_hold += 1,
+            None => reached.without_hold += 1,
+        }
     }
 
     /// Takes the answered order, and tells whether a train in this place may
@@ -167,7 +223,9 @@ impl History {
                 Ok(())
             }
             Call::Lift { id } => {
-                self.stay(id)?.held = None;
+                let stay = self.stay(id)?;
+                let lifted = stay.held.take().is_some() && stay.braked.is_some();
+                self.reached.penalties.lifted += u64::from(lifted);
                 Ok(())
             }
             Call::TakeOff { id } => {
@@ -198,6 +256,7 @@ impl History {
             end: entry.head,
             number: entry.start,
             held: None,
+            braked: None,
             held_count: brake.held_count(settings.ceiling),
         });
         let figures = [brake.full, brake.growth, entry.head];
@@ -212,28 +271,40 @@ impl History {
 
     fn report(&mut self, id: u64, head: u64, speed: u64, answer: Answer) -> Result<(), String> {
         let settings = self.settings.ok_or("a report before the opening")?;
+        let mut reached = self.reached;
         let stay = self.stay(id)?;
         let allowed = stay.move_to(head, speed);
-        let lasted = stay.count_report();
-        let answered = allowed.and_then(|()| stay.obey(answer, settings));
-        if let Some(moving) = lasted {
-            self.reached.holds += 1;
-            self.reached.moving += u64::from(moving);
+        if let Some(moving) = stay.count_report() {
+            reached.holds += 1;
+            reached.moving += u64::from(moving);
         }
+        stay.count_braked(&mut reached.penalties);
+        let answered = allowed.and_then(|()| stay.obey(answer, settings));
+        stay.begin_braked(&mut reached.penalties);
+        let together = self
+            .stays
+            .iter()
+            .filter(|stay| stay.braked.is_some())
+            .count() as u64;
+        reached.penalties.together = reached.penalties.together.max(together);
+        self.reached = reached;
         answered
     }
 
     /// A number above the last accepted or starting one adds its length.
     fn extend(&mut self, id: u64, number: u64, length: u64, answer: Answer) -> Result<(), String> {
         let stay = self.stay(id)?;
-        if number > stay.number {
+        let new = number > stay.number;
+        if new {
             stay.number = number;
             stay.end += length;
         }
-        if answer.values[0] != stay.end {
+        let (end, braked) = (stay.end, stay.braked.is_some());
+        self.reached.penalties.extended += u64::from(new && braked);
+        if answer.values[0] != end {
             return Err(format!(
-                "the end of train {id} is {} by its calls, answered as {}",
-                stay.end, answer.values[0]
+                "the end of train {id} is {end} by its calls, answered as {}",
+                answer.values[0]
             ));
         }
         Ok(())
@@ -260,6 +331,7 @@ impl History {
             nearest_rear = nearest_rear.min(stay.rear()?);
             check_end(stay, ahead, settings)?;
             check_held(stay)?;
+            check_braked(stay)?;
             ahead = Some(stay);
         }
         Ok(())
@@ -296,4 +368,15 @@ fn check_held(stay: &Stay) -> Result<(), String> {
         ));
     }
     Ok(())
+}
+
+/// A stand ends the count, so a train that has one moves.
+fn check_braked(stay: &Stay) -> Result<(), String> {
+    match stay.braked {
+        Some(reports) if reports >= stay.held_count => Err(format!(
+            "train {} moves after {reports} reports, the first of which braked it",
+            stay.id
+        )),
+        _ => Ok(()),
+    }
 }

@@ -1,7 +1,7 @@
 //! Runs the program under test and compares it with the second implementation.
 
 use crate::call::{Answer, Call, Code, Refusal, Settings};
-use crate::claim::{self, Reached};
+use crate::claim::{self, Penalties, Reached};
 use crate::motion::Order;
 use crate::session;
 use crate::wire::{lines, read_answer, read_call, whole_line};
@@ -106,6 +106,7 @@ pub struct Counts {
     pub lists_held: u64,
     /// Lists in which such a hold found the train moving.
     pub lists_held_moving: u64,
+    pub penalties: Penalties,
 }
 
 impl Orders {
@@ -133,6 +134,7 @@ impl Counts {
         self.lists += 1;
         self.lists_held += u64::from(reached.holds > 0);
         self.lists_held_moving += u64::from(reached.moving > 0);
+        self.penalties.add(reached.penalties);
         let mut settings = None;
         for (line, answer) in lines(input).zip(lines(expected)) {
             let call = whole_line(line).and_then(read_call);

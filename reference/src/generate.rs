@@ -27,6 +27,8 @@ pub enum Kind {
     Worst,
     /// Holds that last until after the counted reports.
     Held,
+    /// Trains that brake while they move, several at a time.
+    Braked,
     /// Spoilt lines among good ones.
     Garbage,
     /// Calls before the opening, refused and second openings.
@@ -36,7 +38,7 @@ pub enum Kind {
 }
 
 impl Kind {
-    pub const ALL: [Kind; 10] = [
+    pub const ALL: [Kind; 11] = [
         Kind::Running,
         Kind::Full,
         Kind::Ranges,
@@ -44,6 +46,7 @@ impl Kind {
         Kind::Tiny,
         Kind::Worst,
         Kind::Held,
+        Kind::Braked,
         Kind::Garbage,
         Kind::Openings,
         Kind::Mixture,
@@ -58,6 +61,7 @@ impl Kind {
             Kind::Tiny => (2, 3, 0),
             Kind::Worst => (LONGEST_FEET, 5, 0),
             Kind::Held => (random.pick(&[1, 10, 300]), 3, 0),
+            Kind::Braked => (random.pick(&[1, 50, 2000]), 6, 0),
             Kind::Garbage => (1000, 4, 3),
             Kind::Openings => (100, 3, 20),
             Kind::Mixture => (
@@ -78,7 +82,7 @@ impl Kind {
         match self {
             Kind::Running => 4000,
             Kind::Worst | Kind::Held => 2500,
-            Kind::Tight | Kind::Mixture => 1600,
+            Kind::Tight | Kind::Braked | Kind::Mixture => 1600,
             Kind::Tiny | Kind::Full | Kind::Garbage => 1000,
             Kind::Ranges => 0,
             Kind::Openings => 80,
@@ -105,6 +109,7 @@ pub fn list(seed: u64, kind: Kind) -> Vec<u8> {
         Kind::Ranges => ranges(&mut scene, settings),
         Kind::Worst => worst(&mut scene, settings),
         Kind::Held => held(&mut scene, settings),
+        Kind::Braked => braked(&mut scene, settings),
         Kind::Openings => openings(&mut scene, settings),
         _ => open(&mut scene, settings),
     }
@@ -147,6 +152,12 @@ fn settings(random: &mut Random, kind: Kind) -> Settings {
             safety: random.scaled(GREATEST_SAFETY),
             ceiling: random.pick(&[100_000, 4_000_000, 20_000_000, GREATEST_CEILING]),
             traction: random.between(10_000, GREATEST_TRACTION),
+        },
+        Kind::Braked => Settings {
+            line_end: LONGEST_LINE,
+            safety: random.scaled(GREATEST_SAFETY),
+            ceiling: random.pick(&[100_000, 2_000_000, GREATEST_CEILING]),
+            traction: random.pick(&[500, 3726, GREATEST_TRACTION]),
         },
         _ => Settings {
             line_end: random.between(20_000_000_000, LONGEST_LINE),
@@ -239,6 +250,16 @@ fn held(scene: &mut Scene, settings: Settings) {
             scene.stop_and_take_off();
         }
         scene.name_one(|id| Call::Lift { id });
+        scene.step();
+    }
+}
+
+/// Trains run and brake again and again, all of them at a time.
+fn braked(scene: &mut Scene, settings: Settings) {
+    open(scene, settings);
+    while scene.lines() < Kind::Braked.lines() {
+        scene.let_in();
+        scene.brake_all();
         scene.step();
     }
 }

@@ -106,6 +106,11 @@ impl Line {
         let train = &mut self.trains[index];
         train.motion = motion;
         train.order = order;
+        if speed == 0 {
+            train.penalty = false;
+        } else if order == Order::Brake {
+            train.penalty = true;
+        }
         let [number, cap] = order.numbers();
         Answer::accepted([number, cap, reach])
     }
@@ -199,7 +204,8 @@ impl Line {
             end: train.end,
         };
         let braked = || (Order::Brake, motion.reach(Order::Brake, brake));
-        if train.held {
+        let stays_on = train.penalty && motion.speed > 0;
+        if stays_on || train.held {
             return braked();
         }
         match greatest_cap(motion, brake, bounds) {

@@ -14,6 +14,8 @@ pub struct Train {
     pub order: Order,
     pub end: u64,
     pub held: bool,
+    /// Braked while it moved, and not reported at a stand since: a penalty brake.
+    pub penalty: bool,
     /// The last accepted request number, or the starting number before it.
     pub number: u64,
     /// The last accepted length, none before the first accepted extension.
@@ -35,6 +37,7 @@ impl Train {
             order: Order::Brake,
             end: entry.head,
             held: false,
+            penalty: false,
             number: entry.start,
             length: None,
         }

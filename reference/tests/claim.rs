@@ -4,7 +4,7 @@
 
 use reference::brake::{Brake, STEPS_PER_FOOT};
 use reference::call::{Answer, Call, Entry, Refusal, Settings};
-use reference::claim::{check, Broken, Reached};
+use reference::claim::{check, Broken, Penalties, Reached};
 use reference::motion::{Motion, Order};
 use reference::wire::{put_answer, put_call};
 
@@ -120,7 +120,7 @@ impl Made {
     }
 
     fn assert_kept(&self) {
-        assert_eq!(self.check(), Ok(Reached::default()));
+        assert_eq!(self.check().err(), None);
     }
 }
 
@@ -249,7 +249,7 @@ fn held_train_that_moves_again_is_refused() {
     let mut made = held_for(held_count());
     let reached = Reached {
         holds: 1,
-        moving: 0,
+        ..Reached::default()
     };
     assert_eq!(made.check(), Ok(reached));
     made.report(HEAD, 1, Order::Brake, HEAD);
@@ -274,6 +274,115 @@ fn new_stay_ends_the_count() {
     made.report(HEAD, 0, Order::Drive(CAP), REACH);
     made.report(HEAD + 7, 7, Order::Brake, REACH);
     made.assert_kept();
+}
+
+/// A train with much track, and the worst case of what it was answered.
+struct Run {
+    made: Made,
+    motion: Motion,
+}
+
+impl Run {
+    /// Train 1 has come to a speed of `CAP`, and is told to brake there.
+    fn braked() -> Run {
+        let mut run = Run {
+            made: Made::one_train(100_000_000),
+            motion: Motion {
+                head: HEAD,
+                speed: 0,
+                level: 0,
+            },
+        };
+        run.report(Order::Drive(CAP));
+        run.report(Order::Brake);
+        run
+    }
+
+    fn report(&mut self, order: Order) {
+        let Motion { head, speed, .. } = self.motion;
+        let reach = self.motion.reach(order, brake());
+        self.made.report(head, speed, order, reach);
+        self.motion = self.motion.worst(order, brake());
+    }
+
+    /// So many reports of a train that rolls on.
+    fn roll(&mut self, reports: u64) {
+        for _ in 0..reports {
+            self.report(Order::Drive(0));
+        }
+    }
+
+    fn penalties(&self) -> Penalties {
+        self.made.check().expect("the claim holds").penalties
+    }
+}
+
+/// The report that brakes it is the first of the count.
+#[test]
+fn braked_train_that_moves_after_its_count_is_refused() {
+    let mut run = Run::braked();
+    run.roll(held_count() - 2);
+    run.made.assert_kept();
+    run.roll(1);
+    run.made.assert_broken("the first of which braked it");
+}
+
+#[test]
+fn neither_hold_lift_nor_track_ends_the_count_of_a_braked_train() {
+    let end = HEAD + 100_000_000;
+    for call in 0..4 {
+        let mut run = Run::braked();
+        run.roll(held_count() - 2);
+        match call {
+            0 => {
+                run.made.accepted(Call::Hold { id: 1 });
+                run.made.accepted(Call::Lift { id: 1 });
+            }
+            1 => run.made.extend(1, 2, 1000, end + 1000),
+            2 => run.made.extend(1, 1, 100_000_000, end),
+            _ => run.made.accepted(Call::CallBack { id: 1, place: end }),
+        }
+        run.made.assert_kept();
+        run.roll(1);
+        run.made.assert_broken("the first of which braked it");
+    }
+}
+
+#[test]
+fn stand_ends_the_count_of_a_braked_train() {
+    let mut run = Run::braked();
+    run.roll(held_count() - 2);
+    run.motion.speed = 0;
+    run.report(Order::Drive(CAP));
+    run.roll(held_count());
+    run.made.assert_kept();
+    // Braked again, it is counted from there.
+    run.report(Order::Brake);
+    run.roll(held_count() - 2);
+    run.made.assert_kept();
+    run.roll(1);
+    run.made.assert_broken("the first of which braked it");
+}
+
+#[test]
+fn brakes_of_moving_trains_are_told_by_what_began_and_ended_them() {
+    let mut run = Run::braked();
+    run.made.extend(1, 2, 1000, HEAD + 100_001_000);
+    run.report(Order::Brake);
+    run.motion.speed = 0;
+    run.report(Order::Drive(CAP));
+    run.made.accepted(Call::Hold { id: 1 });
+    run.report(Order::Brake);
+    run.made.accepted(Call::Lift { id: 1 });
+    let expected = Penalties {
+        without_hold: 1,
+        under_hold: 1,
+        stood: 1,
+        extended: 1,
+        lifted: 1,
+        together: 1,
+    };
+    assert_eq!(run.penalties(), expected);
 }
 
 #[test]

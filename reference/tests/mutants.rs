@@ -196,6 +196,16 @@ fn right_version_does_not_differ_from_itself() {
     let missing: Vec<usize> = (0..ANSWERS).filter(|&n| counts.by_number(n) == 0).collect();
     assert!(missing.is_empty(), "answers {missing:?} do not occur");
     assert!(counts.lists_held_moving > 10, "{counts:?}");
+    let seen = counts.penalties;
+    let each = [
+        seen.without_hold,
+        seen.under_hold,
+        seen.stood,
+        seen.extended,
+        seen.lifted,
+    ];
+    assert!(each.iter().all(|&count| count > 100), "{seen:?}");
+    assert!(seen.together > 2, "{seen:?}");
 }
 
 /// So it is the edit that makes a wrong version differ.

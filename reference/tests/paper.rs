@@ -1,6 +1,7 @@
 //! The papers' own examples: document 01's worked session and starred values, as
-//! far as document 02, (i), has them worked out again. `docs/session` has the
-//! session, with the report that is taken and both call-back examples.
+//! far as document 02, (i), has them worked out again, and the example of (ii).
+//! `docs/session` has both sessions, document 01's with the report that is taken
+//! and both call-back examples.
 
 use reference::brake::{application_cycles, full_brake, sheet_cycles, Brake};
 use reference::call::{Answer, Call, Entry, Refusal, Settings};
@@ -60,6 +61,19 @@ fn readme_prints_the_worked_session() {
     let readme = include_str!("../../README.md");
     let blocks: Vec<&str> = readme.split("```\n").collect();
     assert_eq!([blocks[1], blocks[3]], [CALLS, ANSWERS]);
+}
+
+/// Document 02, (ii): after the brake at speed 2,534 the train brakes on at 100,
+/// where document 01 had drive with 2,176. At a stand it drives.
+#[test]
+fn penalty_brake_stays_on_until_the_train_stands() {
+    let calls = include_bytes!("../../docs/session/penalty-calls.txt");
+    let answers = include_str!("../../docs/session/penalty-answers.txt");
+    let program = compare::run(&compare::program(), calls);
+    let program = program.unwrap_or_else(|message| panic!("{message}"));
+    for output in [session::run(calls), program] {
+        assert_eq!(String::from_utf8_lossy(&output), answers);
+    }
 }
 
 /// Under the order to drive, and under the order to brake after it.

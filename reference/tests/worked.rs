@@ -1,4 +1,4 @@
-//! The worked list and the worked session. The checker has computed them from
+//! The worked list and the papers' sessions. The checker has computed them from
 //! the pages in `crates/worked/specs`; the gate runs the program on the files.
 //! Page and files have to be the same.
 
@@ -29,18 +29,21 @@ fn page(file: &str) -> (Vec<String>, Vec<String>) {
         .unzip()
 }
 
+/// Document 01's session, then document 02's.
 #[test]
-fn session_is_its_page() {
+fn sessions_are_their_page() {
     let (inputs, answers) = page("worked/specs/Paper.antt");
     let printed = |lines: Vec<String>| lines.join("\n") + "\n";
-    assert_eq!(
-        printed(inputs),
-        include_str!("../../docs/session/calls.txt")
+    let calls = concat!(
+        include_str!("../../docs/session/calls.txt"),
+        include_str!("../../docs/session/penalty-calls.txt")
     );
-    assert_eq!(
-        printed(answers),
-        include_str!("../../docs/session/answers.txt")
+    let given = concat!(
+        include_str!("../../docs/session/answers.txt"),
+        include_str!("../../docs/session/penalty-answers.txt")
     );
+    assert_eq!(printed(inputs), calls);
+    assert_eq!(printed(answers), given);
 }
 
 #[test]

@@ -34,12 +34,12 @@ use Rattle.train.specs.declared.Limit.{Limit}
 use Rattle.acts.specs.declared.Verdict.{Verdict}
 use Rattle.acts.specs.declared.Verdict.the-variants.{TurnedDown, Passed}
 use Rattle.train.specs.Record.{same, isBrake}
-use Rattle.train.specs.Report.{worstOf, reachOf, orderAfter, reported, computable, reportAllowed}
+use Rattle.train.specs.Report.{worstOf, reachOf, orderAfter, isPenalty, reported, computable, reportAllowed}
 use Rattle.acts.specs.Acts.{requestInRange, isOld, isRepeat, extended, callBackAllowed, mayLeave}
 use Rattle.acts.specs.Decide.{decide, verdict}
 use Rattle.train.proofs.Track.{InLimit, limit-within, limit-beyond}
 use Rattle.train.proofs.Records.{report-passed, brake-tested}
-use Rattle.train.proofs.Sentences.{report-exactly}
+use Rattle.train.proofs.Sentences.{report-exactly, penalty-order}
 use Rattle.acts.proofs.Verdicts.{report-refused, report-taken, extend-bad, extend-old, extend-other, extend-repeat, extend-beyond, extend-new, call-back-refused, call-back-taken}
 
 -- ---- reports
@@ -53,12 +53,14 @@ module _ (σ : Settings) (limit : Limit) (x : Train) (r : Reading) where
   report-9 out =
       by-test (reportAllowed σ x r) (λ e. absurd (out (report-exactly x r .0 (report-passed σ x r e .allows)))) (λ e. report-refused σ x r e)
 
-  -- "A report gives head and speed at the end of a cycle"; the level is the one found after the last cycle. The record gets them and the order,
-  -- the answer that order and its reach.
+  -- "A report gives head and speed at the end of a cycle"; the level is the one found after the last cycle. The record gets them, the order and
+  -- the mark that they make; the answer that order and its reach.
   pub report-answered : reportAllowed σ x r ≡ true
       → let m : Motion = record { head = r .head; speed = r .speed; level = worstOf x .level } in
       let o = orderAfter σ x m in
-      report ≡ Passed (Ordered o (reach (x .figures) m o)) (same x m o (x .authority) (x .marks))
+      report
+      ≡ Passed (Ordered o (reach (x .figures) m o))
+      (same x m o (x .authority) (record { held = x .marks .held; penalty = isPenalty (x .figures) m o }))
   unfolding reported
   report-answered e = report-taken σ x r e
 
@@ -207,16 +209,33 @@ module _ (σ : Settings) (limit : Limit) (x : Train) (place : ℕ) where
 
 -- ---- hold and lift
 
--- "the emergency message from the next report on, and its withdrawal": always taken, and the mark alone; the order already given stays
+-- "the emergency message from the next report on, and its withdrawal": always taken, and its mark alone; the order already given stays
 pub hold-marks : (σ : Settings) (limit : Limit) (x : Train)
-    → verdict (decide σ limit x Hold) ≡ Passed Zeros (same x (x .motion) (x .order) (x .authority) (record { held = true }))
+    → verdict (decide σ limit x Hold) ≡ Passed Zeros (same x (x .motion) (x .order) (x .authority) (record { held = true; penalty = x .marks .penalty }))
 unfolding firstOf
 hold-marks σ limit x = refl
 
 pub lift-unmarks : (σ : Settings) (limit : Limit) (x : Train)
-    → verdict (decide σ limit x Lift) ≡ Passed Zeros (same x (x .motion) (x .order) (x .authority) (record { held = false }))
+    → verdict (decide σ limit x Lift) ≡ Passed Zeros (same x (x .motion) (x .order) (x .authority) (record { held = false; penalty = x .marks .penalty }))
 unfolding firstOf
 lift-unmarks σ limit x = refl
+
+-- ---- a penalty brake
+
+-- document 02, (ii): "Lifting a hold does not shorten it"
+pub lift-brakes-on : (σ : Settings) (limit : Limit) (x : Train) (m : Motion) → x .marks .penalty ≡ true → 0 < m .speed
+    → orderAfter σ (decide σ limit x Lift .after) m ≡ Brake
+lift-brakes-on σ limit x m = penalty-order σ (decide σ limit x Lift .after) m
+
+-- nor does any act but a report, whatever it does to the authority
+pub mark-stays : (σ : Settings) (limit : Limit) (x : Train) (a : Act) → ((r : Reading) → a ≡ Report r → ⊥)
+    → decide σ limit x a .after .marks .penalty ≡ x .marks .penalty
+unfolding extended
+mark-stays σ limit x (Report r) other = absurd (other r refl)
+mark-stays σ limit x (Extend q) other = by-test (isRepeat (x .authority) q) (λ e. rw e) (λ e. rw e)
+mark-stays σ limit x (CallBack place) other = refl
+mark-stays σ limit x Hold other = refl
+mark-stays σ limit x Lift other = refl
 
 -- ---- take off
 

@@ -3,7 +3,7 @@
 use Prim.Native.Nat.{ℕ, zero, suc, _+_, _≤_}
 use mathlib.Core.Bool.{Bool, true, false, cond, not, _&&_}
 use mathlib.Core.Option.{Option, none, some, Option·map, Option·getD}
-use mathlib.Core.Path.{_≡_, refl, subst}
+use mathlib.Core.Path.{_≡_, refl, sym, _∙_, subst}
 use native.Mathlib.Nat.{le-refl}
 use native.Mathlib.Omega.{arith}
 use lib.Dec.{eqb}
@@ -16,6 +16,7 @@ use Rattle.brake.specs.Consist.{figuresOf}
 use Rattle.motion.specs.declared.Motion.{Motion}
 use Rattle.motion.specs.declared.Order.{Order}
 use Rattle.motion.specs.declared.Order.the-variants.{Drive, Brake}
+use Rattle.motion.specs.Motion.{stands}
 use Rattle.motion.specs.Orders.{orderCap, worstCase}
 use Rattle.motion.proofs.Domination.{NoWorse}
 use Rattle.motion.proofs.Slowing.{Slowed, slowed-start, slowed-brake}
@@ -34,20 +35,21 @@ use Rattle.train.specs.declared.Authority.{Authority}
 use Rattle.train.specs.declared.Train.{Train}
 use Rattle.train.specs.declared.Limit.{Limit}
 use Rattle.train.specs.Track.{withinLimit}
-use Rattle.train.specs.Report.{reachOf, allowed, motionAfter, reported}
+use Rattle.train.specs.Record.{isBrake}
+use Rattle.train.specs.Report.{reachOf, allowed, motionAfter, moves, orderAfter, isPenalty, reported}
 use Rattle.acts.specs.Acts.{isRepeat, granted, extended, endingAt}
 use Rattle.acts.specs.Decide.{Ruling, decide}
-use Rattle.train.proofs.Records.{held-brakes}
+use Rattle.train.proofs.Records.{held-brakes, penalty-brakes}
 use Rattle.train.proofs.Track.{InLimit, limit-tested, limit-below}
 use Rattle.train.proofs.Checks.{report-allowed, allowed-head, allowed-no-worse}
 use Rattle.acts.proofs.Checks.{call-back-allowed}
-use Rattle.safety.specs.History.{Counts, Told, levelAfter, orderIn, longer, still, toldAct}
+use Rattle.safety.specs.History.{Counts, Told, levelAfter, orderIn, brakedAfter, longer, still, toldAct}
 use Rattle.safety.specs.Claim.{recordOf}
 use Rattle.safety.proofs.Train.{Guarded, guarded-report, guarded-still}
 
 -- ---- the invariant of a train that the history tells of
 
--- Held with reports since: the first of them ordered the brake, and each of the n others ended a braked cycle.
+-- Held, or braked while moving, with reports since: the first of them ordered the brake, and each of the n others ended a braked cycle.
 abbrev pub Slowing : Settings → Train → Option ℕ → Type 0
 Slowing σ x none = Unit {0}
 Slowing σ x (some zero) = Unit {0}
@@ -56,7 +58,8 @@ Slowing σ x (some (suc n)) = (x .order ≡ Brake) × Slowed (x .figures) (σ .l
 pub record Steady (σ : Settings) (limit : Limit) (x : Told) : Type 0 where
   pub consist : figuresOf (x .entry .load) (x .entry .length) ≡ Given (x .figures)
   pub guarded : Guarded σ limit (recordOf x)
-  pub slowing : Slowing σ (recordOf x) (x .now .counts .held)
+  pub held-slows : Slowing σ (recordOf x) (x .now .counts .held)
+  pub braked-slows : Slowing σ (recordOf x) (x .now .counts .braked)
 
 -- ---- the record that a report tells of
 
@@ -69,7 +72,7 @@ level-worst : (k : Figures) (m : Motion) (o : Order) → levelAfter k o (m .leve
 level-worst k m (Drive c) = refl
 level-worst k m Brake = refl
 
--- a report leaves the mark
+-- a report leaves the mark of a hold
 still-held : (n : Option ℕ) → isSome (Option·map suc n) ≡ isSome n
 still-held none = refl
 still-held (some n) = refl
@@ -99,30 +102,73 @@ module _ (σ : Settings) (limit : Limit) (x : Told) (steady : Steady σ limit x)
 
   -- ---- a report
 
-  slowing-report : (r : Reading) → allowed (recordOf x) r ≡ true → (o : Option ℕ) → x .now .counts .held ≡ o
-      → Slowing σ (reported σ (recordOf x) r) (Option·map suc o)
-  unfolding reported recordOf
-  slowing-report r e none held = tt
-  slowing-report r e (some zero) held =
-      let m = motionAfter (recordOf x) r in
-      (held-brakes σ (recordOf x) m (rw held), slowed-start (x .figures) (σ .limits .ceiling) m (guarded-report σ limit (recordOf x) (steady .guarded) r e .within .speed))
-  slowing-report r e (some (suc n)) held =
-      let k = x .figures in
-      let m = motionAfter (recordOf x) r in
-      let (brake, slowed) : Slowing σ (recordOf x) (some (suc n)) = subst (Slowing σ (recordOf x)) held (steady .slowing) in
-      let braked = subst (λ (o : Order). NoWorse m (worstCase k (recordOf x .motion) o)) brake (allowed-no-worse (recordOf x) r e) in
-      (held-brakes σ (recordOf x) m (rw held), slowed-brake k (σ .limits .ceiling) n (recordOf x .motion) m (steady .guarded .figures) slowed braked)
+  module _ (r : Reading) (e : allowed (recordOf x) r ≡ true) where
+    abbrev m : Motion
+    m = motionAfter (recordOf x) r
+
+    abbrev given : Order
+    given = orderAfter σ (recordOf x) m
+
+    -- one more, where it orders the brake
+    slowing-brake : (n : ℕ) → Slowing σ (recordOf x) (some n) → given ≡ Brake → Slowing σ (reported σ (recordOf x) r) (some (suc n))
+    unfolding reported recordOf
+    slowing-brake zero slow brakes =
+        (brakes, slowed-start (x .figures) (σ .limits .ceiling) m (guarded-report σ limit (recordOf x) (steady .guarded) r e .within .speed))
+    slowing-brake (suc n) (brake, slowed) brakes =
+        let k = x .figures in
+        let braked = subst (λ (o : Order). NoWorse m (worstCase k (recordOf x .motion) o)) brake (allowed-no-worse (recordOf x) r e) in
+        (brakes, slowed-brake k (σ .limits .ceiling) n (recordOf x .motion) m (steady .guarded .figures) slowed braked)
+
+    held-report : (c : Option ℕ) → x .now .counts .held ≡ c → Slowing σ (reported σ (recordOf x) r) (Option·map suc c)
+    unfolding recordOf
+    held-report none held = tt
+    held-report (some n) held =
+        slowing-brake n (subst (Slowing σ (recordOf x)) held (steady .held-slows)) (held-brakes σ (recordOf x) m (rw held))
+
+    -- braked while moving, it gets no other order while it moves
+    braked-on : (n : ℕ) (c : ℕ) → x .now .counts .braked ≡ some n → stands (x .figures) (m .speed) (m .level) ≡ false → given ≡ Drive c → ⊥
+    unfolding recordOf moves
+    braked-on n c braked moving drives =
+        let same : Drive c ≡ Brake = sym drives ∙ penalty-brakes σ (recordOf x) m (rw braked) (rw moving) in
+        let z : _≡_ {A = ℕ} 0 1 = cc in
+        omega arith
+
+    -- the count then, where the train stands or not and gets the order o: it tells the mark, and the train slows down
+    record Counted (standing : Bool) (o : Order) : Type 0 where
+      mark : isSome (brakedAfter standing o (x .now .counts .braked)) ≡ isBrake o && not standing
+      slows : Slowing σ (reported σ (recordOf x) r) (brakedAfter standing o (x .now .counts .braked))
+
+    braked-report : (standing : Bool) (o : Order) → stands (x .figures) (m .speed) (m .level) ≡ standing → given ≡ o → Counted standing o
+    braked-report true (Drive c) stood drives = record { mark = refl; slows = tt }
+    braked-report true Brake stood brakes = record { mark = refl; slows = tt }
+    braked-report false Brake moving brakes = record { mark = refl; slows = go (x .now .counts .braked) refl }
+      where
+        go : (c : Option ℕ) → x .now .counts .braked ≡ c → Slowing σ (reported σ (recordOf x) r) (some (suc (Option·getD c 0)))
+        go none braked = slowing-brake 0 tt brakes
+        go (some n) braked = slowing-brake n (subst (Slowing σ (recordOf x)) braked (steady .braked-slows)) brakes
+    braked-report false (Drive c) moving drives = go (x .now .counts .braked) refl
+      where
+        go : (n : Option ℕ) → x .now .counts .braked ≡ n → Counted false (Drive c)
+        go none braked = record { mark = rw braked; slows = rw braked tt }
+        go (some n) braked = absurd (braked-on n c braked moving drives)
 
   -- ---- where motion and order stay
 
   abbrev stays : Authority → Counts → Told
   stays a n = record { entry = x .entry; figures = x .figures; now = still (x .now) a n }
 
-  steady-still : (a : Authority) (n : Counts) → InLimit limit (a .end) → reachOf (recordOf x) ≤ a .end → Slowing σ (recordOf x) (n .held) → Steady σ limit (stays a n)
+  steady-still : (a : Authority) (c : Option ℕ) → InLimit limit (a .end) → reachOf (recordOf x) ≤ a .end → Slowing σ (recordOf x) c
+      → Steady σ limit (stays a (record { held = c; braked = x .now .counts .braked }))
   unfolding recordOf
-  steady-still a n limited reach slow = record { consist = steady .consist; guarded = guarded-still σ limit (recordOf x) (steady .guarded) a _ limited reach; slowing = go (n .held) slow }
+  steady-still a c limited reach slow =
+      record {
+        consist = steady .consist;
+        guarded = guarded-still σ limit (recordOf x) (steady .guarded) a _ limited reach;
+        held-slows = go c slow;
+        braked-slows = go (x .now .counts .braked) (steady .braked-slows);
+      }
     where
-      go : (c : Option ℕ) → Slowing σ (recordOf x) c → Slowing σ (recordOf (stays a n)) c
+      go : (n : Option ℕ) → Slowing σ (recordOf x) n → Slowing σ (recordOf (stays a (record { held = c; braked = x .now .counts .braked }))) n
       go none slow = tt
       go (some zero) slow = tt
       go (some (suc n)) slow = slow
@@ -142,14 +188,18 @@ module _ (σ : Settings) (limit : Limit) (x : Told) (steady : Steady σ limit x)
   -- ---- any act
 
   pub act-kept : (a : Act) → firstOf (rulingOn a .checks) ≡ none → Acted a
-  unfolding recordOf toldAct reported extended isRepeat
+  unfolding recordOf toldAct moves isPenalty reported extended isRepeat
   act-kept (Report r) e =
       let allows = report-allowed σ (recordOf x) r (passed _ _ _ e .0) in
-      let same : recordOf (afterAct (Report r)) ≡ reported σ (recordOf x) r = rw (order-told, level-worst (x .figures) (recordOf x .motion) (x .now .order), still-held (x .now .counts .held)) in
+      let m = motionAfter (recordOf x) r in
+      let given = orderAfter σ (recordOf x) m in
+      let level = level-worst (x .figures) (recordOf x .motion) (x .now .order) in
+      let count = braked-report r allows (stands (x .figures) (m .speed) (m .level)) given refl refl in
+      let same : recordOf (afterAct (Report r)) ≡ reported σ (recordOf x) r = rw (order-told, level, still-held (x .now .counts .held), count .mark) in
       let g = guarded-report σ limit (recordOf x) (steady .guarded) r allows in
       record {
         told = same;
-        keeps = record { consist = steady .consist; guarded = rw same g; slowing = rw same (slowing-report r allows (x .now .counts .held) refl) };
+        keeps = record { consist = steady .consist; guarded = rw same g; held-slows = rw same (held-report r allows (x .now .counts .held) refl); braked-slows = rw (same, order-told, level) (count .slows) };
         onward = allowed-head (recordOf x) r allows;
         within = (g .within .cap, g .reach-in-end);
       }
@@ -160,7 +210,7 @@ module _ (σ : Settings) (limit : Limit) (x : Told) (steady : Steady σ limit x)
       let reach = steady .guarded .reach-in-end in
       record {
         told = by-test (eqb (q .number) (x .now .authority .number)) (λ e. rw e) (λ e. rw e);
-        keeps = steady-still a (x .now .counts) limited (omega arith) (steady .slowing);
+        keeps = steady-still a (x .now .counts .held) limited (omega arith) (steady .held-slows);
         onward = le-refl _;
         within = le-refl _;
       }
@@ -168,7 +218,7 @@ module _ (σ : Settings) (limit : Limit) (x : Told) (steady : Steady σ limit x)
       let (low, high) = call-back-allowed (recordOf x) p (passed _ _ _ e .0) in
       record {
         told = refl;
-        keeps = steady-still (endingAt (x .now .authority) p) (x .now .counts) (limit-below limit high (steady .guarded .end-in-limit)) low (steady .slowing);
+        keeps = steady-still (endingAt (x .now .authority) p) (x .now .counts .held) (limit-below limit high (steady .guarded .end-in-limit)) low (steady .held-slows);
         onward = le-refl _;
         within = tt;
       }
@@ -176,10 +226,10 @@ module _ (σ : Settings) (limit : Limit) (x : Told) (steady : Steady σ limit x)
       let g = steady .guarded in
       record {
         told = refl;
-        keeps = steady-still (x .now .authority) (record { held = some (Option·getD (x .now .counts .held) 0) }) (g .end-in-limit) (g .reach-in-end) (slowing-hold (x .now .counts .held) (steady .slowing));
+        keeps = steady-still (x .now .authority) (some (Option·getD (x .now .counts .held) 0)) (g .end-in-limit) (g .reach-in-end) (slowing-hold (x .now .counts .held) (steady .held-slows));
         onward = le-refl _;
         within = tt;
       }
   act-kept Lift e =
       let g = steady .guarded in
-      record { told = refl; keeps = steady-still (x .now .authority) (record { held = none }) (g .end-in-limit) (g .reach-in-end) tt; onward = le-refl _; within = tt }
+      record { told = refl; keeps = steady-still (x .now .authority) none (g .end-in-limit) (g .reach-in-end) tt; onward = le-refl _; within = tt }

@@ -106,7 +106,7 @@ module _ (σ : Settings) (xs : List Told) (t : Table) (A : Agrees σ xs t) where
       let now = told-accepted xs (Enter e) v in
       let new = toldEntering e (numbersOf (Accepted v)) in
       let steady : Steady (t .settings) (limitIn (t .settings) (firstLimit (t .settings)) xs (length xs)) new =
-      record { consist = sym (figures-entered (t .settings) e) ∙ f; guarded = guarded-entering _ _ e k (given-sound (e .load) (e .length) k f) (leb-true _ _ (place .0)) limit; slowing = tt } in
+      record { consist = sym (figures-entered (t .settings) e) ∙ f; guarded = guarded-entering _ _ e k (given-sound (e .load) (e .length) k f) (leb-true _ _ (place .0)) limit; held-slows = tt; braked-slows = tt } in
       record {
         settings = A .settings;
         sized = sized-last t _ (A .sized) free;

@@ -5,9 +5,11 @@
 use Prim.Native.Nat.{ℕ, suc, _+_, _*_, _≤_, _<_}
 use mathlib.Core.Bool.{Bool, true, false}
 use mathlib.Core.List.{List}
-use mathlib.Core.Logic.{_⊎_, inl, inr, _↔_}
+use mathlib.Core.Logic.{by-cases, _⊎_, inl, inr, _↔_}
 use mathlib.Core.Option.{some}
 use mathlib.Core.Path.{_≡_, refl, sym, ap, _∙_}
+use native.Mathlib.Decide.{decLt}
+use native.Mathlib.Omega.{arith}
 use Rattle.logic.proofs.Tests.{by-test}
 use Rattle.brake.specs.Consist.{Sound}
 use Rattle.brake.proofs.Sentences.{Described, figures-exactly}
@@ -29,10 +31,10 @@ use Rattle.calls.specs.declared.Values.the-variants.{Ordered, Extended, Zeros}
 use Rattle.train.specs.declared.Authority.{Authority}
 use Rattle.train.specs.declared.Train.{Train}
 use Rattle.train.specs.Record.{same}
-use Rattle.train.specs.Report.{worstOf, reachOf, orderAfter}
+use Rattle.train.specs.Report.{worstOf, reachOf, orderAfter, isPenalty}
 use Rattle.train.proofs.Track.{InLimit}
 use Rattle.train.proofs.Records.{WorksWith, settings-given, free-order}
-use Rattle.train.proofs.Sentences.{report-exactly, held-order, free-drives, free-brakes}
+use Rattle.train.proofs.Sentences.{report-exactly, penalty-order, held-order, as-usual, free-drives, free-brakes, mark-exactly}
 use Rattle.acts.proofs.Sentences.{report-9, report-answered, Asks, extension-10, extension-11, extension-12, extension-repeated, extension-13, extension-taken, call-back-moves, call-back-14, hold-marks, lift-unmarks}
 use Rattle.table.specs.declared.Table.{Table}
 use Rattle.table.specs.declared.Change.the-variants.{Put}
@@ -97,40 +99,74 @@ module _ (o : Opening) (t : Table) (opened : openStep o ≡ outcome (Accepted Ze
       abbrev given : Order
       given = orderAfter (now .settings) x m
 
-      -- the answer is the order and its reach; the record has what was reported, and that order
+      -- the answer is the order and its reach; the record has what was reported, that order, and the mark of a penalty brake that they make
       pub report-accepted : Allowed
           → step now (Own id (Report r))
-          ≡ outcome (Accepted (Ordered given (reach (x .figures) m given))) (changed now (Put i (same x m given (x .authority) (x .marks))))
+          ≡ outcome (Accepted (Ordered given (reach (x .figures) m given))) (changed now (Put i (same x m given (x .authority) (record { held = x .marks .held; penalty = isPenalty (x .figures) m given }))))
       report-accepted so =
           own-step now id i found (Report r) _
           (report-answered (now .settings) (limitAt now i) x r (report-judged o t opened cs i below r ∙ report-exactly x r .1 so))
 
+      -- brake to a moving train, and nothing else, marks it
+      pub penalty-marked : (isPenalty (x .figures) m given ≡ true) ↔ ((given ≡ Brake) × (0 < r .speed))
+      penalty-marked = mark-exactly x m given
+
       -- "Traction offered is the greatest, within the engine's limit and the speed ceiling, after which the air brake, starting from
       -- nothing, still stops the train at or before its end."
-      pub traction-offered : x .marks .held ≡ false → (c : ℕ) → (given ≡ Drive c) ↔ GreatestCap (x .figures) (now .settings .limits) (x .authority .end) m c
-      traction-offered free c = free-drives (now .settings) x m free c
+      -- It holds of a train that is not held and, with document 02, (ii), "for unmarked trains", or at "one with speed 0".
+      abbrev Unmarked : Type 0
+      Unmarked = (x .marks .penalty ≡ false) ⊎ (r .speed ≡ 0)
 
-      -- "At a report, brake is ordered exactly when the train is held or no traction, not even zero, would do."
+      pub traction-offered : x .marks .held ≡ false → Unmarked → (c : ℕ)
+          → (given ≡ Drive c) ↔ GreatestCap (x .figures) (now .settings .limits) (x .authority .end) m c
+      traction-offered free unmarked c = free-drives (now .settings) x m free unmarked c
+
+      -- "a marked train gets brake", as long as it moves
+      abbrev Marked : Type 0
+      Marked = (x .marks .penalty ≡ true) × (0 < r .speed)
+
+      pub penalty-repeated : Marked → given ≡ Brake
+      penalty-repeated (marked, moving) = penalty-order (now .settings) x m marked moving
+
+      -- one of the three
+      which : (x .marks .held ≡ true) ⊎ (Marked ⊎ ((x .marks .held ≡ false) × Unmarked))
+      which =
+          by-test (x .marks .held)
+          (λ held. inl held)
+          (λ free. inr (by-test (x .marks .penalty)
+          (λ marked. by-cases (decLt 0 (r .speed)) (λ moving. inl (marked, moving)) (λ standing. inr (free, inr (omega arith))))
+          (λ unmarked. inr (free, inl unmarked))))
+
+      -- "At a report, brake is ordered exactly when the train is held or no traction, not even zero, would do"; or when it is marked and moves
       abbrev NoneWouldDo : Type 0
       NoneWouldDo = (now .settings .limits .ceiling < r .speed) ⊎ (x .authority .end < r .head + 2 * r .speed + stoppingDistance (x .figures) (r .speed) 0)
 
-      pub brake-ordered : (given ≡ Brake) ↔ ((x .marks .held ≡ true) ⊎ NoneWouldDo)
+      pub brake-ordered : (given ≡ Brake) ↔ ((x .marks .held ≡ true) ⊎ (Marked ⊎ NoneWouldDo))
       brake-ordered = (only, exactly)
         where
-          only : given ≡ Brake → (x .marks .held ≡ true) ⊎ NoneWouldDo
-          only e = by-test (x .marks .held) (λ held. inl held) (λ free. inr (free-brakes (now .settings) x m free sound .0 e))
+          only : given ≡ Brake → (x .marks .held ≡ true) ⊎ (Marked ⊎ NoneWouldDo)
+          only e = go which
+            where
+              go : (x .marks .held ≡ true) ⊎ (Marked ⊎ ((x .marks .held ≡ false) × Unmarked)) → (x .marks .held ≡ true) ⊎ (Marked ⊎ NoneWouldDo)
+              go (inl held) = inl held
+              go (inr (inl marked)) = inr (inl marked)
+              go (inr (inr (free, unmarked))) = inr (inr (free-brakes (now .settings) x m free unmarked sound .0 e))
 
-          exactly : (x .marks .held ≡ true) ⊎ NoneWouldDo → given ≡ Brake
+          exactly : (x .marks .held ≡ true) ⊎ (Marked ⊎ NoneWouldDo) → given ≡ Brake
           exactly (inl held) = held-order (now .settings) x m held
-          exactly (inr none) =
-              by-test (x .marks .held)
-              (λ held. held-order (now .settings) x m held)
-              (λ free. free-brakes (now .settings) x m free sound .1 none)
+          exactly (inr (inl marked)) = penalty-repeated marked
+          exactly (inr (inr none)) = go which
+            where
+              go : (x .marks .held ≡ true) ⊎ (Marked ⊎ ((x .marks .held ≡ false) × Unmarked)) → given ≡ Brake
+              go (inl held) = held-order (now .settings) x m held
+              go (inr (inl marked)) = penalty-repeated marked
+              go (inr (inr (free, unmarked))) = free-brakes (now .settings) x m free unmarked sound .1 none
 
       -- "A standing train at its end gets drive with cap 0."
       pub standing-drives : x .marks .held ≡ false → r .speed ≡ 0 → x .authority .end ≡ r .head → given ≡ Drive 0
       standing-drives free standing here =
-          free-order (now .settings) x m free ∙ standing-at-end (x .figures) (now .settings .limits) (x .authority .end) m standing here
+          free-order (now .settings) x m (as-usual (now .settings) x m free (inr standing))
+          ∙ standing-at-end (x .figures) (now .settings .limits) (x .authority .end) m standing here
 
     -- ---- "authority"
 
@@ -177,16 +213,16 @@ module _ (o : Opening) (t : Table) (opened : openStep o ≡ outcome (Accepted Ze
     call-back-accepted place low high =
         own-step now id i found (CallBack place) _ (call-back-moves (now .settings) (limitAt now i) x place (always-computable o t opened cs i below) low high)
 
-    -- hold and lift are taken always, and change the mark alone
-    pub hold-accepted : step now (Own id Hold) ≡ outcome (Accepted Zeros) (changed now (Put i (same x (x .motion) (x .order) (x .authority) (record { held = true }))))
+    -- hold and lift are taken always, and change their mark alone: "Lifting a hold does not shorten" a penalty brake
+    pub hold-accepted : step now (Own id Hold) ≡ outcome (Accepted Zeros) (changed now (Put i (same x (x .motion) (x .order) (x .authority) (record { held = true; penalty = x .marks .penalty }))))
     hold-accepted = own-step now id i found Hold _ (hold-marks (now .settings) (limitAt now i) x)
 
-    pub lift-accepted : step now (Own id Lift) ≡ outcome (Accepted Zeros) (changed now (Put i (same x (x .motion) (x .order) (x .authority) (record { held = false }))))
+    pub lift-accepted : step now (Own id Lift) ≡ outcome (Accepted Zeros) (changed now (Put i (same x (x .motion) (x .order) (x .authority) (record { held = false; penalty = x .marks .penalty }))))
     lift-accepted = own-step now id i found Lift _ (lift-unmarks (now .settings) (limitAt now i) x)
 
     -- "Both may be repeated without effect."
-    mark-stays : (b : Bool) → x .marks .held ≡ b → changed now (Put i (same x (x .motion) (x .order) (x .authority) (record { held = b }))) ≡ now
-    mark-stays b already = put-same now i _ (ap (λ (c : Bool). same x (x .motion) (x .order) (x .authority) (record { held = c })) (sym already))
+    mark-stays : (b : Bool) → x .marks .held ≡ b → changed now (Put i (same x (x .motion) (x .order) (x .authority) (record { held = b; penalty = x .marks .penalty }))) ≡ now
+    mark-stays b already = put-same now i _ (ap (λ (c : Bool). same x (x .motion) (x .order) (x .authority) (record { held = c; penalty = x .marks .penalty })) (sym already))
 
     pub hold-again : x .marks .held ≡ true → step now (Own id Hold) ≡ outcome (Accepted Zeros) now
     hold-again held = hold-accepted ∙ ap (outcome (Accepted Zeros)) (mark-stays true held)

@@ -30,16 +30,24 @@ module _ (o : Opening) (limit : Limit) (x : Told) (t : Steady (settingsOf o) lim
   unfolding recordOf
   head-end = guarded-head (settingsOf o) limit (recordOf x) (t .guarded)
 
-  held-stands : (n : ℕ) → x .now .counts .held ≡ some n → countedReports o x ≤ n → Stands x
+  -- held, or braked while moving
+  slowing-stands : (c : Option ℕ) → Slowing (settingsOf o) (recordOf x) c → (n : ℕ) → c ≡ some n → countedReports o x ≤ n → Stands x
   unfolding recordOf
-  held-stands zero e enough = absurd (omega arith)
-  held-stands (suc n) e enough =
-      let slowing = subst (Slowing (settingsOf o) (recordOf x)) e (t .slowing) in
+  slowing-stands c slow zero e enough = absurd (omega arith)
+  slowing-stands c slow (suc n) e enough =
+      let slowing = subst (Slowing (settingsOf o) (recordOf x)) e slow in
       slowed-stands (x .figures) (o .ceiling) n (recordOf x .motion) (t .guarded .figures) (omega arith) (slowing .1)
 
   alone : Alone o x
   unfolding recordOf
-  alone = record { consist = t .consist; rear-on-line = t .guarded .rear-on-line; head-within-end = head-end; held-stands = held-stands }
+  alone =
+      record {
+        consist = t .consist;
+        rear-on-line = t .guarded .rear-on-line;
+        head-within-end = head-end;
+        held-stands = slowing-stands _ (t .held-slows);
+        braked-stands = slowing-stands _ (t .braked-slows);
+      }
 
   -- the first train, and one behind another
   end-first : limit ≡ firstLimit (settingsOf o) → Separate o none x

@@ -76,7 +76,7 @@ lined-wider σ a b wider (x ∷ xs) l =
       reach-in-end = g .reach-in-end;
       within = g .within;
     } in
-    (record { consist = l .0 .consist; guarded = guarded; slowing = l .0 .slowing }, l .1, l .2)
+    (record { consist = l .0 .consist; guarded = guarded; held-slows = l .0 .held-slows; braked-slows = l .0 .braked-slows }, l .1, l .2)
 
 -- behind a train that has not gone back
 wider-head : (σ : Settings) (x y : Train) → y .length ≡ x .length → x .motion .head ≤ y .motion .head

@@ -14,7 +14,7 @@ use Rattle.motion.specs.Starred.{fullGiven}
 use Rattle.train.specs.Track.{stepsOf}
 use Rattle.safety.specs.History.{isAccepted, toldAct, toldCall, toldBy, told, rearOf}
 use Rattle.safety.specs.Claim.{Claim}
-use Rattle.safety.specs.Worked.{sessionLine, loadedEnters, heldCount, headPastEnd, endTooNear, endOffTheLine, overlapOfTwo, heldAndMoving, figuresMadeUp}
+use Rattle.safety.specs.Worked.{sessionLine, loadedEnters, heldCount, headPastEnd, endTooNear, endOffTheLine, overlapOfTwo, heldAndMoving, brakedAndMoving, figuresMadeUp}
 
 pub counted : heldCount (told (loadedEnters ∷ [])) ≡ 710
 unfolding ceilDiv cyclesToStand isAccepted toldCall toldBy told
@@ -43,6 +43,10 @@ overlap-refuted claim = not-above 20000000000 (claim .2 .1 .0)
 pub held-refuted : Claim sessionLine heldAndMoving → ⊥
 unfolding Claim ceilDiv cyclesToStand isAccepted toldAct toldCall toldBy told nextLevel stands
 held-refuted claim = not-both (claim .0 .held-stands 710 refl (omega arith)) refl
+
+pub braked-refuted : Claim sessionLine brakedAndMoving → ⊥
+unfolding Claim ceilDiv cyclesToStand isAccepted toldAct toldCall toldBy told nextLevel stands
+braked-refuted claim = not-both (claim .0 .braked-stands 710 refl (omega arith)) refl
 
 pub figures-refuted : Claim sessionLine figuresMadeUp → ⊥
 unfolding Claim isAccepted toldCall toldBy told ceilDiv between carOf fullBrake applicationTime applicationCycles sheetEntry entryFor brakeCycles figuresWith figuresBy figuresOf

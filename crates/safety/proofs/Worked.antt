@@ -10,7 +10,7 @@ use Rattle.motion.specs.Bounds.{inBounds}
 use Rattle.calls.specs.Checks.{firstOf}
 use Rattle.train.specs.Ranges.{settingsInRange}
 use Rattle.train.specs.Track.{stepsOf, limitBehind}
-use Rattle.train.specs.Report.{allowed, orderAfter, reported, computable, reportAllowed}
+use Rattle.train.specs.Report.{allowed, moves, mustBrake, orderAfter, isPenalty, reported, computable, reportAllowed}
 use Rattle.acts.specs.Acts.{requestInRange, isRepeat, extended, isOld, callBackAllowed, mayLeave}
 use Rattle.table.specs.Table.{placeIn, placeOf, aheadOf}
 use Rattle.line.specs.Decide.{openDecision, enterDecision, actDecision, takeOffDecision, decideOn}
@@ -19,5 +19,5 @@ use Rattle.safety.specs.History.{history, isAccepted, toldAct, without, 
 use Rattle.safety.specs.Worked.{sessionLine, wordsAfter, workedCalls, workedWords}
 
 pub worked : wordsAfter sessionLine workedCalls ≡ workedWords
-unfolding ceilDiv between carOf fullBrake applicationTime applicationCycles sheetEntry entryFor brakeCycles figuresWith figuresBy figuresOf brakeTravel brakeSpeed nextLevel driveTravel driveSpeed stands brakedCycle firstCycles enoughCycles brakedRun totalTravel stoppingDistance stoppingPlace capFits greatest orderFor inBounds firstOf settingsInRange requestInRange stepsOf limitBehind allowed orderAfter reported computable reportAllowed isRepeat extended isOld callBackAllowed mayLeave placeIn placeOf aheadOf openDecision enterDecision actDecision takeOffDecision decideOn openStep step history isAccepted toldAct without toldCall toldBy told rearOf
+unfolding ceilDiv between carOf fullBrake applicationTime applicationCycles sheetEntry entryFor brakeCycles figuresWith figuresBy figuresOf brakeTravel brakeSpeed nextLevel driveTravel driveSpeed stands brakedCycle firstCycles enoughCycles brakedRun totalTravel stoppingDistance stoppingPlace capFits greatest orderFor inBounds firstOf settingsInRange requestInRange stepsOf limitBehind allowed moves mustBrake orderAfter isPenalty reported computable reportAllowed isRepeat extended isOld callBackAllowed mayLeave placeIn placeOf aheadOf openDecision enterDecision actDecision takeOffDecision decideOn openStep step history isAccepted toldAct without toldCall toldBy told rearOf
 worked = refl

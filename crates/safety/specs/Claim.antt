@@ -29,12 +29,13 @@ abbrev pub Stands : Told → Type 0
 Stands x = stands (x .figures) (x .now .speed) (x .now .level) ≡ true
 
 -- of each train by itself: its figures are those of its load class and length, its rear is on the line, its head is at or before its end,
--- and held with so many reports it stands
+-- and with so many reports it stands: held, or braked while moving, held or not. A stand ends the second count, so it never gets that far.
 pub record Alone (o : Opening) (x : Told) : Type 0 where
   pub consist : figuresOf (x .entry .load) (x .entry .length) ≡ Given (x .figures)
   pub rear-on-line : stepsOf (x .entry .length) ≤ x .now .head
   pub head-within-end : x .now .head ≤ x .now .authority .end
   pub held-stands : (n : ℕ) → x .now .counts .held ≡ some n → countedReports o x ≤ n → Stands x
+  pub braked-stands : (n : ℕ) → x .now .counts .braked ≡ some n → countedReports o x ≤ n → Stands x
 
 -- its end lies at least the safety distance behind the rear ahead; that of the first train is at most the line end
 abbrev pub Separate : Opening → Option Told → Told → Type 0
@@ -60,7 +61,7 @@ Claim o es = Safe o none (told es)
 unfoldable pub recordOf : Told → Train
 recordOf x =
     trainOf (x .entry .id) (x .entry .length) (x .figures) (record { head = x .now .head; speed = x .now .speed; level = x .now .level })
-    (x .now .order) (x .now .authority) (record { held = isSome (x .now .counts .held) })
+    (x .now .order) (x .now .authority) (record { held = isSome (x .now .counts .held); penalty = isSome (x .now .counts .braked) })
 
 -- Demand 3 for one list of calls on the table t that the opening o made: the claim holds of the history, and the table after it is what
 -- the history tells (proofs/Demand3: demand-3).

@@ -1,13 +1,13 @@
--- Document 01, "Authorities": the words of demand 3. They come from the calls and their answers alone.
+-- Document 01, "Authorities", and document 02, (ii): the words of demand 3. They come from the calls and their answers alone.
 use Prim.Native.Nat.{ℕ, suc, _+_, _-_}
-use mathlib.Core.Bool.{Bool, cond}
+use mathlib.Core.Bool.{Bool, true, false, cond}
 use mathlib.Core.Option.{Option, none, some, Option·map, Option·getD}
 use mathlib.Core.List.{List, [], _∷_, _++_, map, foldl}
 use lib.Dec.{eqb}
 use Rattle.brake.specs.declared.Figures.{Figures}
 use Rattle.motion.specs.declared.Order.{Order}
 use Rattle.motion.specs.declared.Order.the-variants.{Drive, Brake}
-use Rattle.motion.specs.Motion.{nextLevel, releasedLevel}
+use Rattle.motion.specs.Motion.{nextLevel, releasedLevel, stands}
 use Rattle.calls.specs.declared.Entry.{Entry}
 use Rattle.calls.specs.declared.Asked.{Asked}
 use Rattle.calls.specs.declared.Act.{Act}
@@ -45,10 +45,12 @@ isAccepted e = eqb (e .answer .number) 0
 pub record Counts : Type 0 where
   -- held: those since the first hold that no lift follows
   pub held : Option ℕ
+  -- braked while moving: those since the one that ordered it, that one included, where the train has not stood at any
+  pub braked : Option ℕ
 
--- not held
+-- not held, and not braked while moving
 abbrev pub freshCounts : Counts
-freshCounts = record { held = none }
+freshCounts = record { held = none; braked = none }
 
 -- what its entering and its accepted acts since tell of it by now
 pub record State : Type 0 where
@@ -70,7 +72,7 @@ pub record Told : Type 0 where
 abbrev pub stateOf : ℕ → ℕ → ℕ → Order → Authority → Counts → State
 stateOf h v l o a n = record { head = h; speed = v; level = l; order = o; authority = a; counts = n }
 
--- Enter is answered with B and j. The train stands at its head under full brake, has no other track, and is not held.
+-- Enter is answered with B and j. The train stands at its head under full brake and has no other track. Nothing is counted.
 abbrev pub toldEntering : Entry → Numbers → Told
 toldEntering e r =
     let a : Authority = record { end = e .head; start = e .start; number = e .start; asked = 0 } in
@@ -85,6 +87,13 @@ levelAfter k Brake level = nextLevel k level
 abbrev pub orderIn : Numbers → Order
 orderIn r = cond (eqb (r .first) 1) (Drive (r .second)) Brake
 
+-- A report with which the train stands ends the count of those braked while moving; brake to a moving train begins it. Until it stands each
+-- report counts, whatever its answer and whatever is called meanwhile.
+abbrev pub brakedAfter : Bool → Order → Option ℕ → Option ℕ
+brakedAfter true o n = none
+brakedAfter false Brake n = some (suc (Option·getD n 0))
+brakedAfter false (Drive c) n = Option·map suc n
+
 -- a new number adds its length, and the last one again adds none
 abbrev pub longer : Authority → Asked → Authority
 longer a q =
@@ -97,13 +106,15 @@ still s a n = stateOf (s .head) (s .speed) (s .level) (s .order) a n
 -- the state s of a train with figures k, after an accepted act with its answer
 unfoldable pub toldAct : Figures → State → Numbers → Act → State
 toldAct k s n (Report r) =
-    stateOf (r .head) (r .speed) (levelAfter k (s .order) (s .level)) (orderIn n) (s .authority) (record { held = Option·map suc (s .counts .held) })
+    let level = levelAfter k (s .order) (s .level) in
+    stateOf (r .head) (r .speed) level (orderIn n) (s .authority)
+    (record { held = Option·map suc (s .counts .held); braked = brakedAfter (stands k (r .speed) level) (orderIn n) (s .counts .braked) })
 toldAct k s n (Extend q) = still s (longer (s .authority) q) (s .counts)
 toldAct k s n (CallBack p) =
     still s (record { end = p; start = s .authority .start; number = s .authority .number; asked = s .authority .asked }) (s .counts)
 -- held already, it goes on counting
-toldAct k s n Hold = still s (s .authority) (record { held = some (Option·getD (s .counts .held) 0) })
-toldAct k s n Lift = still s (s .authority) (record { held = none })
+toldAct k s n Hold = still s (s .authority) (record { held = some (Option·getD (s .counts .held) 0); braked = s .counts .braked })
+toldAct k s n Lift = still s (s .authority) (record { held = none; braked = s .counts .braked })
 
 -- ---- the trains on the line, in the order of entering
 

@@ -27,8 +27,9 @@ extend n l = Extend (record { number = n; length = l })
 abbrev pub sessionLine : Opening
 sessionLine = record { end = 200000000000; safety = 8000000000; ceiling = 26822400; traction = 3726 }
 
--- Train 7 leaves and enters again: nothing of its first stay counts. Train 9 is held, lifted and held twice: the reports count from the
--- first hold after the lift. Its taking off (15) and its report beyond the worst case (9) are refused and count nowhere.
+-- Train 7 leaves and enters again: nothing of its first stay counts. In its second it is held and lifted, and braked while it moves: that count
+-- goes on after the lift and with more track. Train 9 is braked while it moves too, but stands afterwards. It is held, lifted and held twice: the
+-- reports count from the first hold after the lift. Its taking off (15) and its report beyond the worst case (9) are refused and count nowhere.
 abbrev pub workedCalls : List Call
 workedCalls =
     enter 7 14295120000 2345 1 0
@@ -36,18 +37,27 @@ workedCalls =
     ∷ Own 7 (report 14295120000 0)
     ∷ TakeOff 7
     ∷ enter 7 24295120000 2345 2 5
+    ∷ Own 7 (extend 6 1000000000)
+    ∷ Own 7 (report 24295120000 0)
+    ∷ Own 7 Hold
+    ∷ Own 7 (report 24295123726 3726)
+    ∷ Own 7 Lift
+    ∷ Own 7 (extend 7 1)
+    ∷ Own 7 (report 24295131000 3000)
     ∷ enter 9 1000000000 100 3 0
     ∷ TakeOff 9
-    ∷ Own 9 Hold
+    ∷ Own 9 (extend 1 100000000)
     ∷ Own 9 (report 1000000000 0)
+    ∷ Own 9 Hold
+    ∷ Own 9 (report 1000003726 3726)
     ∷ Own 9 Lift
     ∷ Own 9 Hold
-    ∷ Own 9 (report 1000000000 0)
+    ∷ Own 9 (report 1000003726 0)
     ∷ Own 9 Hold
-    ∷ Own 9 (report 1000000001 0)
+    ∷ Own 9 (report 1000003727 0)
     ∷ Own 9 (extend 3 500)
     ∷ Own 9 (extend 3 500)
-    ∷ Own 9 (report 1000000000 0)
+    ∷ Own 9 (report 1000003726 0)
     ∷ []
 
 pub record Words : Type 0 where
@@ -58,6 +68,7 @@ pub record Words : Type 0 where
   pub rear : ℕ
   pub end : ℕ
   pub held : Option ℕ
+  pub braked : Option ℕ
 
 abbrev pub wordsOf : Told → Words
 wordsOf x =
@@ -69,6 +80,7 @@ wordsOf x =
       rear = rearOf x;
       end = x .now .authority .end;
       held = x .now .counts .held;
+      braked = x .now .counts .braked;
     }
 
 abbrev pub wordsAfter : Opening → List Call → List Words
@@ -76,8 +88,8 @@ wordsAfter o cs = map wordsOf (told (history (openStep o .table) cs))
 
 abbrev pub workedWords : List Words
 workedWords =
-    record { id = 7; start = 5; head = 24295120000; speed = 0; rear = 10000000000; end = 24295120000; held = none }
-    ∷ record { id = 9; start = 0; head = 1000000000; speed = 0; rear = 390400000; end = 1000000500; held = some 2 }
+    record { id = 7; start = 5; head = 24295131000; speed = 3000; rear = 10000011000; end = 25295120001; held = none; braked = some 2 }
+    ∷ record { id = 9; start = 0; head = 1000003726; speed = 0; rear = 390403726; end = 1100000500; held = some 2; braked = none }
     ∷ []
 
 -- ---- the count of document 01's example, and histories that break the claim
@@ -122,6 +134,11 @@ overlapOfTwo =
 -- held, it has had 710 reports, and moves
 abbrev pub heldAndMoving : List Event
 heldAndMoving = loadedEnters ∷ said (Own 7 Hold) 0 0 0 ∷ replicate 710 (said (Own 7 (report 14295120000 1)) 2 0 14295120000)
+
+-- braked once while it moved, it has had 709 reports more, and moves: whatever they were answered with
+abbrev pub brakedAndMoving : List Event
+brakedAndMoving =
+    loadedEnters ∷ said (Own 7 (report 14295120000 1)) 2 0 14295120000 ∷ replicate 709 (said (Own 7 (report 14295120000 1)) 1 0 14295120000)
 
 -- its figures are those of another class
 abbrev pub figuresMadeUp : List Event

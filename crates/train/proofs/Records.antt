@@ -22,7 +22,7 @@ use Rattle.train.specs.declared.Settings.{Settings}
 use Rattle.train.specs.declared.Train.{Train}
 use Rattle.train.specs.Ranges.{settingsOf}
 use Rattle.train.specs.Record.{figuresFor, isBrake}
-use Rattle.train.specs.Report.{allowed, motionAfter, goalOf, orderAfter, computable, reportAllowed}
+use Rattle.train.specs.Report.{allowed, motionAfter, goalOf, moves, mustBrake, orderAfter, computable, reportAllowed}
 
 -- the table works with the numbers that were opened
 pub record WorksWith (o : Opening) (σ : Settings) : Type 0 where
@@ -57,18 +57,28 @@ report-passed σ x r e =
     let inner = both (computable x) (allowed x r) (outer .0) in
     record { computes = inner .0; allows = inner .1; bounded = bounds-tested _ _ _ (outer .1) }
 
--- Held: brake.
-pub held-brakes : (σ : Settings) (x : Train) (m : Motion) → x .marks .held ≡ true → orderAfter σ x m ≡ Brake
+-- Brake, whatever the track.
+pub must-brake : (σ : Settings) (x : Train) (m : Motion) → mustBrake x m ≡ true → orderAfter σ x m ≡ Brake
 unfolding orderAfter
-held-brakes σ x m e = rw (e, orderAfter)
+must-brake σ x m e = rw (e, orderAfter)
 
 -- Otherwise: what the rule gives against the goal.
-pub free-order : (σ : Settings) (x : Train) (m : Motion) → x .marks .held ≡ false → orderAfter σ x m ≡ orderFor (x .figures) (σ .limits) (goalOf x) m
+pub free-order : (σ : Settings) (x : Train) (m : Motion) → mustBrake x m ≡ false → orderAfter σ x m ≡ orderFor (x .figures) (σ .limits) (goalOf x) m
 unfolding orderAfter
 free-order σ x m e = rw (e, orderAfter)
 
 pub may-order : (σ : Settings) (x : Train) (m : Motion) → MayOrder (x .figures) (σ .limits) (goalOf x) m (orderAfter σ x m)
-may-order σ x m = by-test (x .marks .held) (λ e. inl (held-brakes σ x m e)) (λ e. inr (free-order σ x m e))
+may-order σ x m = by-test (mustBrake x m) (λ e. inl (must-brake σ x m e)) (λ e. inr (free-order σ x m e))
+
+-- marked and still moving
+pub penalty-brakes : (σ : Settings) (x : Train) (m : Motion) → x .marks .penalty ≡ true → moves (x .figures) m ≡ true → orderAfter σ x m ≡ Brake
+unfolding mustBrake
+penalty-brakes σ x m e moving = must-brake σ x m (rw (e, moving))
+
+-- held
+pub held-brakes : (σ : Settings) (x : Train) (m : Motion) → x .marks .held ≡ true → orderAfter σ x m ≡ Brake
+unfolding mustBrake
+held-brakes σ x m e = must-brake σ x m (by-test (x .marks .penalty && moves (x .figures) m) (λ f. rw f) (λ f. rw (f, e)))
 
 pub brake-tested : (o : Order) → isBrake o ≡ true → o ≡ Brake
 brake-tested (Drive c) e = let z : _≡_ {A = ℕ} 0 1 = cc in absurd (omega arith)

@@ -3,28 +3,32 @@
 -- Assumes nothing.
 use Prim.Native.Nat.{ℕ, _+_, _*_, _≤_, _<_}
 use mathlib.Core.Bool.{true, false, _&&_}
-use mathlib.Core.Logic.{_⊎_, _↔_}
+use mathlib.Core.Logic.{_⊎_, inl, inr, _↔_}
 use mathlib.Core.Option.{none, some}
 use mathlib.Core.Path.{_≡_}
+use native.Mathlib.Omega.{arith}
 use lib.Dec.{leb}
-use borrow.Author.Tests.{le-leb, leb-true}
-use Rattle.logic.proofs.Tests.{both}
+use borrow.Author.Tests.{le-leb, leb-true, ne-eqb, eqb-false, not-true}
+use Rattle.logic.proofs.Tests.{by-test, both}
 use Rattle.ranges.specs.Ranges.{lineEndInRange, safetyInRange, ceilingInRange, tractionInRange}
 use Rattle.ranges.proofs.Sentences.{line-end, safety-distance, speed-ceiling, greatest-traction}
 use Rattle.motion.specs.declared.Motion.{Motion}
+use Rattle.motion.specs.declared.Order.{Order}
 use Rattle.motion.specs.declared.Order.the-variants.{Drive, Brake}
-use Rattle.motion.specs.Motion.{stoppingDistance}
+use Rattle.motion.specs.Motion.{stands, stoppingDistance}
 use Rattle.motion.proofs.OrderSentences.{GreatestCap, drive-exactly, brake-at-zero}
+use Rattle.brake.specs.declared.Figures.{Figures}
 use Rattle.brake.specs.Consist.{Sound}
 use Rattle.calls.specs.declared.Opening.{Opening}
 use Rattle.calls.specs.declared.Reading.{Reading}
 use Rattle.train.specs.declared.Settings.{Settings}
 use Rattle.train.specs.declared.Train.{Train}
 use Rattle.train.specs.Ranges.{settingsInRange}
+use Rattle.train.specs.Record.{isBrake}
 use Rattle.train.specs.Track.{stepsOf, limitBehind}
-use Rattle.train.specs.Report.{worstOf, allowed, orderAfter}
+use Rattle.train.specs.Report.{worstOf, allowed, moves, mustBrake, orderAfter, isPenalty, ordered}
 use Rattle.train.proofs.Track.{InLimit, limit-first, in-behind, behind-in}
-use Rattle.train.proofs.Records.{held-brakes, free-order}
+use Rattle.train.proofs.Records.{held-brakes, penalty-brakes, free-order, brake-tested}
 
 -- ---- the settings
 
@@ -87,17 +91,58 @@ report-exactly x r = (only, exactly)
 
 -- ---- orders
 
+-- document 02, (ii): a train moves until a report has speed 0
+pub moves-exactly : (k : Figures) (m : Motion) → (moves k m ≡ true) ↔ (0 < m .speed)
+unfolding moves stands
+moves-exactly k m = (only, exactly)
+  where
+    only : moves k m ≡ true → 0 < m .speed
+    only e = let moving = eqb-false (m .speed) 0 (not-true _ e) in omega arith
+
+    exactly : 0 < m .speed → moves k m ≡ true
+    exactly h = rw (ne-eqb (m .speed) 0 (omega arith))
+
 module _ (σ : Settings) (x : Train) (m : Motion) where
+  -- "a brake order, once given to a moving train, is repeated at each report"; "a marked train gets brake": whatever its track, held or not
+  pub penalty-order : x .marks .penalty ≡ true → 0 < m .speed → orderAfter σ x m ≡ Brake
+  penalty-order marked moving = penalty-brakes σ x m marked (moves-exactly (x .figures) m .1 moving)
+
   -- "Held: brake."
   pub held-order : x .marks .held ≡ true → orderAfter σ x m ≡ Brake
   held-order = held-brakes σ x m
 
-  module _ (free : x .marks .held ≡ false) where
+  -- "demand 2's rules for the greatest cap and for brake hold for unmarked trains"; "until one with speed 0 is accepted, whose own order is
+  -- worked out as usual"
+  module _ (free : x .marks .held ≡ false) (unmarked : (x .marks .penalty ≡ false) ⊎ (m .speed ≡ 0)) where
+    pub as-usual : mustBrake x m ≡ false
+    unfolding mustBrake
+    as-usual = go unmarked
+      where
+        go : (x .marks .penalty ≡ false) ⊎ (m .speed ≡ 0) → mustBrake x m ≡ false
+        go (inl clear) = rw (clear, free)
+        go (inr standing) =
+            by-test (moves (x .figures) m)
+            (λ e. let moving = moves-exactly (x .figures) m .0 e in absurd (omega arith))
+            (λ e. by-test (x .marks .penalty) (λ f. rw (f, e, free)) (λ f. rw (f, free)))
+
     -- "Otherwise drive with the greatest cap c from 0 to A where v + c is at most V and the reach is at most the end of authority."
     pub free-drives : (c : ℕ) → (orderAfter σ x m ≡ Drive c) ↔ GreatestCap (x .figures) (σ .limits) (x .authority .end) m c
-    free-drives c = rw (free-order σ x m free) (drive-exactly (x .figures) (σ .limits) (x .authority .end) m c)
+    free-drives c = rw (free-order σ x m as-usual) (drive-exactly (x .figures) (σ .limits) (x .authority .end) m c)
 
     -- "No such c: brake."
     pub free-brakes : Sound (x .figures) → (orderAfter σ x m ≡ Brake)
         ↔ ((σ .limits .ceiling < m .speed) ⊎ (x .authority .end < m .head + 2 * m .speed + stoppingDistance (x .figures) (m .speed) 0))
-    free-brakes s = rw (free-order σ x m free) (brake-at-zero (x .figures) (σ .limits) (x .authority .end) m s)
+    free-brakes s = rw (free-order σ x m as-usual) (brake-at-zero (x .figures) (σ .limits) (x .authority .end) m s)
+
+-- ---- the mark
+
+-- "The train record gains a mark for this": brake to a moving train sets it, and no other order leaves it
+pub mark-exactly : (x : Train) (m : Motion) (o : Order) → (ordered x m o .marks .penalty ≡ true) ↔ ((o ≡ Brake) × (0 < m .speed))
+unfolding isPenalty
+mark-exactly x m o = (only, exactly)
+  where
+    only : ordered x m o .marks .penalty ≡ true → (o ≡ Brake) × (0 < m .speed)
+    only e = let (braked, moving) = both (isBrake o) (moves (x .figures) m) e in (brake-tested o braked, moves-exactly (x .figures) m .0 moving)
+
+    exactly : (o ≡ Brake) × (0 < m .speed) → ordered x m o .marks .penalty ≡ true
+    exactly (braked, moving) = rw (braked, moves-exactly (x .figures) m .1 moving)

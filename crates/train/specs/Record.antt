@@ -24,9 +24,9 @@ figuresFor σ e = figuresOf (e .load) (e .length)
 abbrev pub freshAuthority : ℕ → ℕ → Authority
 freshAuthority h s = record { end = h; start = s; number = s; asked = 0 }
 
--- not held
+-- not held, and no penalty brake
 abbrev pub freshMarks : Marks
-freshMarks = record { held = false }
+freshMarks = record { held = false; penalty = false }
 
 -- Enter: standing, order brake, level B
 abbrev pub entering : Entry → Figures → Train
@@ -46,9 +46,13 @@ authorised x a = same x (x .motion) (x .order) a (x .marks)
 abbrev pub marked : Train → Marks → Train
 marked x ms = same x (x .motion) (x .order) (x .authority) ms
 
--- the mark of a hold, set or taken away
+-- the mark of a hold, set or taken away; a penalty brake stays on
 abbrev pub withHeld : Marks → Bool → Marks
-withHeld ms b = record { held = b }
+withHeld ms b = record { held = b; penalty = ms .penalty }
+
+-- the mark of a penalty brake
+abbrev pub withPenalty : Marks → Bool → Marks
+withPenalty ms b = record { held = ms .held; penalty = b }
 
 -- whether the last order is brake
 abbrev pub isBrake : Order → Bool

@@ -1,17 +1,19 @@
--- Document 01, "Orders": a report at the end of a cycle, and the order that it gets.
+-- Document 01, "Orders", and document 02, (ii): a report at the end of a cycle, the order that it gets, and the mark of a penalty brake.
 use Prim.Native.Nat.{ℕ}
-use mathlib.Core.Bool.{Bool, true, false, _&&_}
+use mathlib.Core.Bool.{Bool, true, false, not, _&&_, _||_}
 use lib.Dec.{leb}
+use Rattle.brake.specs.declared.Figures.{Figures}
 use Rattle.motion.specs.declared.Motion.{Motion}
 use Rattle.motion.specs.declared.Order.{Order}
 use Rattle.motion.specs.declared.Order.the-variants.{Brake}
+use Rattle.motion.specs.Motion.{stands}
 use Rattle.motion.specs.Orders.{orderCap, worstCase, reach, orderFor}
 use Rattle.motion.specs.Bounds.{inBounds}
 use Rattle.calls.specs.declared.Reading.{Reading}
 use Rattle.train.specs.declared.Settings.{Settings}
 use Rattle.train.specs.declared.Train.{Train}
 use Rattle.train.specs.declared.Reported.{Reported}
-use Rattle.train.specs.Record.{moved}
+use Rattle.train.specs.Record.{moved, marked, withPenalty, isBrake}
 
 -- worst case of a train's last order
 abbrev pub worstOf : Train → Motion
@@ -34,13 +36,29 @@ motionAfter x r = record { head = r .head; speed = r .speed; level = worstOf x .
 abbrev pub goalOf : Train → ℕ
 goalOf x = x .authority .end
 
--- Held: brake. Otherwise drive with the greatest cap, or brake where there is none.
+-- a train that does not stand moves
+unfoldable pub moves : Figures → Motion → Bool
+moves k m = not (stands k (m .speed) (m .level))
+
+-- Brake, whatever the track: marked and still moving, or held.
+unfoldable pub mustBrake : Train → Motion → Bool
+mustBrake x m = (x .marks .penalty && moves (x .figures) m) || x .marks .held
+
+-- Otherwise drive with the greatest cap, or brake where there is none.
 unfoldable pub orderAfter : Settings → Train → Motion → Order
-orderAfter σ x m = elim (x .marks .held) [ true ↦ Brake | false ↦ orderFor (x .figures) (σ .limits) (goalOf x) m ]
+orderAfter σ x m = elim (mustBrake x m) [ true ↦ Brake | false ↦ orderFor (x .figures) (σ .limits) (goalOf x) m ]
+
+-- a brake order to a moving train: a penalty brake
+unfoldable pub isPenalty : Figures → Motion → Order → Bool
+isPenalty k m o = isBrake o && moves k m
+
+-- the record with this motion and order; a penalty brake marks it, and any other order takes the mark away
+abbrev pub ordered : Train → Motion → Order → Train
+ordered x m o = marked (moved x m o) (withPenalty (x .marks) (isPenalty (x .figures) m o))
 
 -- the record after an accepted report
 unfoldable pub reported : Settings → Train → Reading → Train
-reported σ x r = moved x (motionAfter x r) (orderAfter σ x (motionAfter x r))
+reported σ x r = ordered x (motionAfter x r) (orderAfter σ x (motionAfter x r))
 
 -- The record is one that motion can be worked out from. No list of calls leaves another (safety/proofs/Bounds: always-computable).
 unfoldable pub computable : Train → Bool

@@ -7,9 +7,9 @@ ghost use Rattle.ranges.specs.Ranges.{greatestLength};
 ghost use Rattle.motion.specs.Orders.{offer};
 ghost use Rattle.motion.specs.Bounds.{Bounded};
 ghost use Rattle.train.specs.Ranges.{settingsInRange, settingsOf};
-ghost use Rattle.train.specs.Record.{figuresFor, freshAuthority, freshMarks, entering, moved, isBrake};
+ghost use Rattle.train.specs.Record.{figuresFor, freshAuthority, freshMarks, entering, isBrake};
 ghost use Rattle.train.specs.Track.{stepsOf, limitBehind, withinLimit};
-ghost use Rattle.train.specs.Report.{worstOf, reachOf, allowed, motionAfter, orderAfter, reported, withReach, computable, reportAllowed};
+ghost use Rattle.train.specs.Report.{worstOf, reachOf, allowed, motionAfter, moves, mustBrake, orderAfter, isPenalty, ordered, reported, withReach, computable, reportAllowed};
 use brake::Figures;
 use brake::FiguresFound;
 use calls::Entry;
@@ -36,9 +36,10 @@ pub struct Authority {
     pub asked: u64,
 }
 
-// What calls have marked a train with.
+// What calls have marked a train with: a hold, and a penalty brake, which stays on until the train stands.
 pub struct Marks {
     pub held: bool,
+    pub penalty: bool,
 }
 
 // A train record. The length is in feet.
@@ -157,7 +158,10 @@ pub fn fresh_authority(head: u64, start: u64) -> Authority
 pub fn fresh_marks() -> Marks
     ensures { λ r. ⌜ r ≡ freshMarks ⌝ }
 {
-    Marks { held: false }
+    Marks {
+        held: false,
+        penalty: false,
+    }
 }
 
 // Enter: standing under full brake. Nothing of an earlier stay counts.
@@ -181,13 +185,14 @@ pub fn new_train(e: Entry, k: Figures) -> Train
     }
 }
 
-// Report: another motion and order. The record is written anew, because an order is not stored to.
-fn with_motion(x: Train, m: Motion, o: Order) -> Train
-    ensures { λ r. ⌜ r ≡ moved x m o ⌝ }
+// Report: another motion and order, and the mark that they make. The record is written anew, because an order is not stored to.
+fn with_order(x: Train, m: Motion, o: Order) -> Train
+    ensures { λ r. ⌜ r ≡ ordered x m o ⌝ }
 {
     let k = x.figures;
     let a = x.authority;
-    let s = x.marks;
+    let mut s = x.marks;
+    s.penalty = is_penalty(k, m, o);
     Train {
         id: x.id,
         length: x.length,
@@ -280,14 +285,37 @@ pub fn report_allowed(s: Settings, x: Train, r: Reading) -> bool
     logic::both(is_allowed(x, r), motion::in_bounds(k, m, limits.traction))
 }
 
+// Whether a train moves, that is, does not stand.
+fn is_moving(k: Figures, m: Motion) -> bool
+    ensures { λ r. ⌜ r ≡ moves k m ⌝ }
+{
+    !motion::standing(k, m.speed, m.level)
+}
+
+// A brake order to a moving train is a penalty brake: it stays on.
+fn is_penalty(k: Figures, m: Motion, o: Order) -> bool
+    ensures { λ r. ⌜ r ≡ isPenalty k m o ⌝ }
+{
+    logic::both(is_brake(o), is_moving(k, m))
+}
+
+// Brake, whatever the track. Neither a lift nor more track ends a penalty brake: only a stand does.
+fn must_brake(x: Train, m: Motion) -> bool
+    ensures { λ r. ⌜ r ≡ mustBrake x m ⌝ }
+{
+    let k = x.figures;
+    let marks = x.marks;
+    let stays_on = logic::both(marks.penalty, is_moving(k, m));
+    logic::either(stays_on, marks.held)
+}
+
 // A hold acts here, at the next report, and not on the order already given.
 fn order_after(s: Settings, x: Train, m: Motion) -> Offer
     requires { ⌜ Bounded (x .figures) m (s .limits .traction) ⌝ }
     ensures { λ r. ⌜ r ≡ offer (x .figures) m (orderAfter s x m) ⌝ }
 {
     let k = x.figures;
-    let marks = x.marks;
-    if marks.held {
+    if must_brake(x, m) {
         return motion::offer_of(k, m, Order::Brake);
     }
     let limits = s.limits;
@@ -304,7 +332,7 @@ pub fn report_on(s: Settings, x: Train, r: Reading) -> Reported
     let given = order_after(s, x, m);
     let o = given.order;
     Reported {
-        train: with_motion(x, m, o),
+        train: with_order(x, m, o),
         reach: given.reach,
     }
 }

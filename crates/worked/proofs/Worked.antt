@@ -1,4 +1,4 @@
--- The worked session and the worked list are what the definitions give: computed, the list part by part, with the trains between two parts.
+-- The sessions of the papers and the worked list are what the definitions give: computed, the list part by part, with the trains between two parts.
 -- Assumes nothing.
 use Prim.Native.Nat.{ℕ}
 use mathlib.Core.List.{List, [], _∷_, _++_, append-nil}
@@ -13,7 +13,7 @@ use Rattle.calls.specs.Checks.{firstOf}
 use Rattle.calls.specs.Requests.{allZero, readAs, requestOf}
 use Rattle.train.specs.Ranges.{settingsInRange}
 use Rattle.train.specs.Track.{stepsOf, limitBehind}
-use Rattle.train.specs.Report.{allowed, orderAfter, reported, computable, reportAllowed}
+use Rattle.train.specs.Report.{allowed, moves, mustBrake, orderAfter, isPenalty, reported, computable, reportAllowed}
 use Rattle.acts.specs.Acts.{requestInRange, isRepeat, extended, isOld, callBackAllowed, mayLeave}
 use Rattle.table.specs.Table.{placeIn, placeOf, aheadOf}
 use Rattle.line.specs.Decide.{openDecision, enterDecision, actDecision, takeOffDecision, decideOn}
@@ -23,12 +23,12 @@ use Rattle.stream.specs.Session.{closed, lineDecision}
 use Rattle.stream.specs.Input.{lines, rest, after, outputLine, answers, lastAnswer, output, kept}
 use Rattle.stream.proofs.Lines.{Standing, standing, standing-kept, standing-cut}
 use Rattle.stream.proofs.Pieces.{last-kept}
-use Rattle.worked.specs.Paper.{paperSession}
+use Rattle.worked.specs.Paper.{paperSession, penaltySession}
 use Rattle.worked.specs.Worked.{Exchange, bytesOf, inputOf, outputOf, firstPart, afterFirst, secondPart, afterSecond, thirdPart, afterThird, fourthPart, unfinished, workedInput, workedOutput}
 
 -- what has been written after lines from the state s on, and how things stand then
 unfoldable ran : Session → List Exchange → Standing
-unfolding ceilDiv between carOf fullBrake applicationTime applicationCycles sheetEntry entryFor brakeCycles figuresWith figuresBy figuresOf brakeTravel brakeSpeed nextLevel driveTravel driveSpeed stands brakedCycle firstCycles enoughCycles brakedRun totalTravel stoppingDistance stoppingPlace capFits greatest orderFor inBounds firstOf allZero readAs requestOf settingsInRange requestInRange stepsOf limitBehind allowed orderAfter reported computable reportAllowed isRepeat extended isOld callBackAllowed mayLeave placeIn placeOf aheadOf openDecision enterDecision actDecision takeOffDecision decideOn digit column columns numbersIn lineRead left text textOf answerText lineDecision lines rest after outputLine answers bytesOf inputOf outputOf
+unfolding ceilDiv between carOf fullBrake applicationTime applicationCycles sheetEntry entryFor brakeCycles figuresWith figuresBy figuresOf brakeTravel brakeSpeed nextLevel driveTravel driveSpeed stands brakedCycle firstCycles enoughCycles brakedRun totalTravel stoppingDistance stoppingPlace capFits greatest orderFor inBounds firstOf allZero readAs requestOf settingsInRange requestInRange stepsOf limitBehind allowed moves mustBrake orderAfter isPenalty reported computable reportAllowed isRepeat extended isOld callBackAllowed mayLeave placeIn placeOf aheadOf openDecision enterDecision actDecision takeOffDecision decideOn digit column columns numbersIn lineRead left text textOf answerText lineDecision lines rest after outputLine answers bytesOf inputOf outputOf
 ran s xs = standing s [] [] (inputOf xs)
 
 -- the lines xs, answered as they say from the state s on, leave the state t
@@ -39,6 +39,11 @@ Ruled s xs t = ran s xs ≡ record { session = t; begins = []; written = outputO
 pub worked-session : output (inputOf paperSession) ≡ outputOf paperSession
 unfolding ran lastAnswer
 worked-session = refl
+
+-- document 02's example of a penalty brake
+pub penalty-session : output (inputOf penaltySession) ≡ outputOf penaltySession
+unfolding ran lastAnswer
+penalty-session = refl
 
 -- ---- the worked list
 

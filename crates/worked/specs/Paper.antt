@@ -1,5 +1,6 @@
+-- Two sessions of the papers, computed by the definitions, from bytes to bytes (proofs/Worked: worked-session, penalty-session).
 -- Document 01's worked session, with the report that is taken and both call-back examples, as document 02, (i), has it worked out again: the
--- input and the output in docs/session. It is computed by the definitions, from bytes to bytes (proofs/Worked: worked-session).
+-- input and the output in docs/session.
 use mathlib.Core.List.{List, [], _∷_}
 use Rattle.worked.specs.Worked.{Exchange, line}
 
@@ -15,4 +16,17 @@ paperSession =
     ∷ line " 3             7   14295122534          2534             0             0" " 0             2             0   14295139993"
     ∷ line " 5             7   14295139993             0             0             0" " 0             0             0             0"
     ∷ line " 5             7   14295139992             0             0             0" "14             0             0             0"
+    ∷ []
+
+-- Document 02, (ii), on the same line: after the brake at speed 2,534 the report of 100 gets brake too, where document 01 had drive with
+-- 2,176. Reported with speed 0, the train drives.
+abbrev pub penaltySession : List Exchange
+penaltySession =
+    line " 1  200000000000    8000000000      26822400          3726             0" " 0             0             0             0"
+    ∷ line " 2             7   14295120000          2345             1             0" " 0        133303           263   14295120000"
+    ∷ line " 4             7             1         20000             0             0" " 0   14295140000             0             0"
+    ∷ line " 3             7   14295120000             0             0             0" " 0             1          2534   14295139993"
+    ∷ line " 3             7   14295122534          2534             0             0" " 0             2             0   14295139993"
+    ∷ line " 3             7   14295122634           100             0             0" " 0             2             0   14295122673"
+    ∷ line " 3             7   14295122634             0             0             0" " 0             1          2285   14295139993"
     ∷ []

@@ -169,6 +169,16 @@ fn print_table(counts: &Counts) {
         "{} lists reached the held count, {} of them with a train that was moving",
         counts.lists_held, counts.lists_held_moving
     );
+    let brakes = counts.penalties;
+    println!(
+        "{} moving trains braked for want of track, {} under a hold; {} stood afterwards; until then {} extensions and {} lifts; at most {} at a time",
+        brakes.without_hold,
+        brakes.under_hold,
+        brakes.stood,
+        brakes.extended,
+        brakes.lifted,
+        brakes.together
+    );
 }
 
 fn all_numbers_occur(counts: &Counts) -> Result<(), String> {

@@ -14,7 +14,7 @@ order-after-requires c κs = rw (c .motion-after .ensures) (report-passed _ _ _ 
 
 returns : tie.Need-returns
 unfolding reported
-returns c = rw (c .with-motion .ensures, c .before .order-after .ensures, c .before .before .motion-after .ensures)
+returns c = rw (c .with-order .ensures, c .before .order-after .ensures, c .before .before .motion-after .ensures)
 
 pub report-on-spec : {M : Type 1} → statement M
 report-on-spec =

@@ -1,0 +1,13 @@
+-- `train::is_moving` meets its contract.
+-- Assumes nothing.
+use borrow.Author.Needs.{needs}
+use Rattle.train.specs.Report.{moves}
+use Rattle.train.proofs.is_moving.Statement.{statement}
+use Rattle.train.proofs.is_moving.Tie as tie
+
+returns : tie.Need-returns
+unfolding moves
+returns c = rw (c .standing .ensures)
+
+pub is-moving-spec : {M : Type 1} → statement M
+is-moving-spec = tie.close (tie.spec (λ c κs. search needs) returns)
