@@ -228,14 +228,14 @@ pub lift-brakes-on : (σ : Settings) (limit : Limit) (x : Train) (m : Motion) �
 lift-brakes-on σ limit x m = penalty-order σ (decide σ limit x Lift .after) m
 
 -- nor does any act but a report, whatever it does to the authority
-pub mark-stays : (σ : Settings) (limit : Limit) (x : Train) (a : Act) → ((r : Reading) → a ≡ Report r → ⊥)
+pub penalty-stays : (σ : Settings) (limit : Limit) (x : Train) (a : Act) → ((r : Reading) → a ≡ Report r → ⊥)
     → decide σ limit x a .after .marks .penalty ≡ x .marks .penalty
 unfolding extended
-mark-stays σ limit x (Report r) other = absurd (other r refl)
-mark-stays σ limit x (Extend q) other = by-test (isRepeat (x .authority) q) (λ e. rw e) (λ e. rw e)
-mark-stays σ limit x (CallBack place) other = refl
-mark-stays σ limit x Hold other = refl
-mark-stays σ limit x Lift other = refl
+penalty-stays σ limit x (Report r) other = absurd (other r refl)
+penalty-stays σ limit x (Extend q) other = by-test (isRepeat (x .authority) q) (λ e. rw e) (λ e. rw e)
+penalty-stays σ limit x (CallBack place) other = refl
+penalty-stays σ limit x Hold other = refl
+penalty-stays σ limit x Lift other = refl
 
 -- ---- take off
 

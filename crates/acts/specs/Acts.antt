@@ -42,7 +42,7 @@ calledBack x place = authorised x (endingAt (x .authority) place)
 unfoldable pub callBackAllowed : Train → ℕ → Bool
 callBackAllowed x place = computable x && between (reachOf x) (x .authority .end) place
 
--- Hold and lift: the mark alone, which the next report reads
+-- Hold and lift: the mark of a hold alone, which the next report reads
 abbrev pub holding : Train → Bool → Train
 holding x b = marked x (withHeld (x .marks) b)
 

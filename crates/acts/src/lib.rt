@@ -82,7 +82,7 @@ fn call_back_to(x: Train, place: u64) -> Train
     y
 }
 
-// Hold and lift: the mark alone, which the next report reads.
+// Hold and lift: the mark of a hold alone, which the next report reads. A penalty brake stays on.
 fn with_held(x: Train, held: bool) -> Train
     ensures { λ r. ⌜ r ≡ holding x held ⌝ }
 {

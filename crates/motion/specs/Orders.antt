@@ -52,7 +52,7 @@ unfoldable pub greatest : (ℕ → Bool) → ℕ → Order
 greatest passes zero = elim (passes 0) [ true ↦ Drive 0 | false ↦ Brake ]
 greatest passes (suc n) = elim (passes (suc n)) [ true ↦ Drive (suc n) | false ↦ greatest passes n ]
 
--- the order of a train that is not held
+-- the order that the goal allows
 unfoldable pub orderFor : Figures → Limits → ℕ → Motion → Order
 orderFor k l goal m = greatest (capFits k l goal m) (l .traction)
 

@@ -248,7 +248,7 @@ fn halve(k: Figures, goal: u64, m: Motion, high: u64, least: u64) -> Offer
     }
 }
 
-// The order of a train that is not held, with its reach: drive with the greatest cap that fits, or brake where none does.
+// The order that the goal allows, with its reach: drive with the greatest cap that fits, or brake where none does.
 // The greatest cap allowed is tried first: on free track it fits. Then cap 0, if that is another: where it does not fit, none
 // does. So 19 trials at most, at A = 100,000: these two, and 17 to halve what lies between them.
 pub fn order_for(k: Figures, l: Limits, goal: u64, m: Motion) -> Offer

@@ -1,4 +1,4 @@
--- Document 01, "Orders" and "Authorities": a train record, in parts. A part that a call sets has a definition for its value on entering.
+-- Document 01, "Orders" and "Authorities", and document 02, (ii): a train record, in parts. A part that a call sets has a definition for its value on entering.
 use Prim.Native.Nat.{ℕ}
 use mathlib.Core.Bool.{Bool, true, false}
 use Rattle.brake.specs.declared.Figures.{Figures}
@@ -37,9 +37,6 @@ entering e k =
 abbrev pub same : Train → Motion → Order → Authority → Marks → Train
 same x m o a ms = trainOf (x .id) (x .length) (x .figures) m o a ms
 
-abbrev pub moved : Train → Motion → Order → Train
-moved x m o = same x m o (x .authority) (x .marks)
-
 abbrev pub authorised : Train → Authority → Train
 authorised x a = same x (x .motion) (x .order) a (x .marks)
 
@@ -54,7 +51,7 @@ withHeld ms b = record { held = b; penalty = ms .penalty }
 abbrev pub withPenalty : Marks → Bool → Marks
 withPenalty ms b = record { held = ms .held; penalty = b }
 
--- whether the last order is brake
+-- whether an order is brake
 abbrev pub isBrake : Order → Bool
 isBrake (Drive c) = false
 isBrake Brake = true

@@ -204,7 +204,7 @@ fn with_order(x: Train, m: Motion, o: Order) -> Train
     }
 }
 
-// Whether the last order is brake.
+// Whether an order is brake.
 pub fn is_brake(o: Order) -> bool
     ensures { λ r. ⌜ r ≡ isBrake o ⌝ }
 {

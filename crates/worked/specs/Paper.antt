@@ -1,9 +1,9 @@
--- Two sessions of the papers, computed by the definitions, from bytes to bytes (proofs/Worked: worked-session, penalty-session).
--- Document 01's worked session, with the report that is taken and both call-back examples, as document 02, (i), has it worked out again: the
--- input and the output in docs/session.
+-- Two sessions of the papers, the files in docs/session. They are computed by the definitions, from bytes to bytes (proofs/Worked:
+-- worked-session, penalty-session).
 use mathlib.Core.List.{List, [], _∷_}
 use Rattle.worked.specs.Worked.{Exchange, line}
 
+-- document 01's, with the report that is taken and both call-back examples, as document 02, (i), has it worked out again
 abbrev pub paperSession : List Exchange
 paperSession =
     line " 1  200000000000    8000000000      26822400          3726             0" " 0             0             0             0"
@@ -18,7 +18,7 @@ paperSession =
     ∷ line " 5             7   14295139992             0             0             0" "14             0             0             0"
     ∷ []
 
--- Document 02, (ii), on the same line: after the brake at speed 2,534 the report of 100 gets brake too, where document 01 had drive with
+-- document 02's, (ii), on the same line: after the brake at speed 2,534 the report of 100 gets brake too, where document 01 had drive with
 -- 2,176. Reported with speed 0, the train drives.
 abbrev pub penaltySession : List Exchange
 penaltySession =
