@@ -11,7 +11,7 @@ use lib.Seq.{drop-cons}
 use borrow.Author.Tests.{ne-eqb}
 use Rattle.calls.specs.declared.Act.the-variants.{Report, Extend, CallBack, Hold, Lift}
 use Rattle.calls.specs.declared.Call.the-variants.{Enter, Own, TakeOff}
-use Rattle.calls.specs.declared.Request.the-variants.{Open, OnTable}
+use Rattle.calls.specs.declared.Ask.the-variants.{Open, OnTable}
 use Rattle.calls.specs.declared.RequestRead.the-variants.{Unreadable}
 use Rattle.calls.specs.Requests.{at, allZero, zeroFrom, readAs, openingIn, entryIn, readingIn, askedIn, requestOf}
 

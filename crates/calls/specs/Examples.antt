@@ -14,10 +14,11 @@ use Rattle.calls.specs.declared.Numbers.{Numbers}
 use Rattle.calls.specs.declared.Act.the-variants.{Report, Extend, CallBack, Hold, Lift}
 use Rattle.calls.specs.declared.Call.{Call}
 use Rattle.calls.specs.declared.Call.the-variants.{Enter, Own, TakeOff}
-use Rattle.calls.specs.declared.Request.the-variants.{Open, OnTable}
+use Rattle.calls.specs.declared.Ask.the-variants.{Open, OnTable}
 use Rattle.calls.specs.declared.RequestRead.{RequestRead}
 use Rattle.calls.specs.declared.RequestRead.the-variants.{Read, Unreadable}
 use Rattle.calls.specs.Answers.{numbers}
+use Rattle.calls.specs.Requests.{request}
 
 -- ---- answers
 
@@ -82,12 +83,12 @@ abbrev pub asks : ℕ → ℕ → ℕ → ℕ → ℕ → ℕ → RequestRead �
 asks code a b c d e r = record { row = code ∷ a ∷ b ∷ c ∷ d ∷ e ∷ []; read = r }
 
 abbrev pub call : Call → RequestRead
-call c = Read (OnTable c)
+call c = Read (request (OnTable c))
 
 abbrev pub requests : List Asking
 requests =
     -- 1 open (line end, safety distance, V, A)
-    asks 1 51 52 53 54 0 (Read (Open (record { end = 51; safety = 52; ceiling = 53; traction = 54 })))
+    asks 1 51 52 53 54 0 (Read (request (Open (record { end = 51; safety = 52; ceiling = 53; traction = 54 }))))
     ∷ asks 1 51 52 53 54 1 Unreadable
     -- 2 enter (id, head, length, load, starting number)
     ∷ asks 2 51 52 53 54 55 (call (Enter (record { id = 51; head = 52; length = 53; load = 54; start = 55 })))

@@ -10,8 +10,9 @@ use Rattle.calls.specs.declared.Reading.{Reading}
 use Rattle.calls.specs.declared.Asked.{Asked}
 use Rattle.calls.specs.declared.Act.the-variants.{Report, Extend, CallBack, Hold, Lift}
 use Rattle.calls.specs.declared.Call.the-variants.{Enter, Own, TakeOff}
+use Rattle.calls.specs.declared.Ask.{Ask}
+use Rattle.calls.specs.declared.Ask.the-variants.{Open, OnTable}
 use Rattle.calls.specs.declared.Request.{Request}
-use Rattle.calls.specs.declared.Request.the-variants.{Open, OnTable}
 use Rattle.calls.specs.declared.RequestRead.{RequestRead}
 use Rattle.calls.specs.declared.RequestRead.the-variants.{Read, Unreadable}
 
@@ -26,9 +27,12 @@ allZero (n ∷ ns) = eqb n 0 && allZero ns
 abbrev pub zeroFrom : ℕ → List ℕ → Bool
 zeroFrom n row = allZero (drop n row)
 
+abbrev pub request : Ask → Request
+request a = record { asks = a }
+
 -- a request that uses the numbers before place n: unused numbers are 0
-unfoldable pub readAs : ℕ → List ℕ → Request → RequestRead
-readAs n row r = cond (zeroFrom n row) (Read r) Unreadable
+unfoldable pub readAs : ℕ → List ℕ → Ask → RequestRead
+readAs n row a = cond (zeroFrom n row) (Read (request a)) Unreadable
 
 -- line end, safety distance, V, A
 abbrev pub openingIn : List ℕ → Opening

@@ -52,10 +52,15 @@ pub enum Call {
     TakeOff(u64),
 }
 
-// What a line asks: a new table, or a call on the one there is.
-pub enum Request {
+// What is asked: a new table, or a call on the one there is.
+pub enum Ask {
     Open(Opening),
     OnTable(Call),
+}
+
+// A request, as a line makes it.
+pub struct Request {
+    pub asks: Ask,
 }
 
 // A row of numbers, read: some rows ask nothing.
@@ -199,11 +204,11 @@ fn zero_from(row: [u64; ROW], n: usize) -> bool
 }
 
 // A request that uses the numbers before place n: the unused ones are 0.
-fn read_as(row: [u64; ROW], n: usize, r: Request) -> RequestRead
-    ensures { λ o. ⌜ o ≡ readAs n row r ⌝ }
+fn read_as(row: [u64; ROW], n: usize, a: Ask) -> RequestRead
+    ensures { λ r. ⌜ r ≡ readAs n row a ⌝ }
 {
     if zero_from(row, n) {
-        return RequestRead::Read(r);
+        return RequestRead::Read(Request { asks: a });
     }
     RequestRead::Unreadable
 }
@@ -222,7 +227,7 @@ pub fn request_of(row: [u64; ROW]) -> RequestRead
         1 => read_as(
             row,
             5,
-            Request::Open(Opening {
+            Ask::Open(Opening {
                 end: a,
                 safety: b,
                 ceiling: c,
@@ -232,7 +237,7 @@ pub fn request_of(row: [u64; ROW]) -> RequestRead
         2 => read_as(
             row,
             6,
-            Request::OnTable(Call::Enter(Entry {
+            Ask::OnTable(Call::Enter(Entry {
                 id: a,
                 head: b,
                 length: c,
@@ -243,12 +248,12 @@ pub fn request_of(row: [u64; ROW]) -> RequestRead
         3 => read_as(
             row,
             4,
-            Request::OnTable(Call::Own(a, Act::Report(Reading { head: b, speed: c }))),
+            Ask::OnTable(Call::Own(a, Act::Report(Reading { head: b, speed: c }))),
         ),
         4 => read_as(
             row,
             4,
-            Request::OnTable(Call::Own(
+            Ask::OnTable(Call::Own(
                 a,
                 Act::Extend(Asked {
                     number: b,
@@ -256,10 +261,10 @@ pub fn request_of(row: [u64; ROW]) -> RequestRead
                 }),
             )),
         ),
-        5 => read_as(row, 3, Request::OnTable(Call::Own(a, Act::CallBack(b)))),
-        6 => read_as(row, 2, Request::OnTable(Call::Own(a, Act::Hold))),
-        7 => read_as(row, 2, Request::OnTable(Call::Own(a, Act::Lift))),
-        8 => read_as(row, 2, Request::OnTable(Call::TakeOff(a))),
+        5 => read_as(row, 3, Ask::OnTable(Call::Own(a, Act::CallBack(b)))),
+        6 => read_as(row, 2, Ask::OnTable(Call::Own(a, Act::Hold))),
+        7 => read_as(row, 2, Ask::OnTable(Call::Own(a, Act::Lift))),
+        8 => read_as(row, 2, Ask::OnTable(Call::TakeOff(a))),
         _ => RequestRead::Unreadable,
     }
 }

@@ -20,11 +20,13 @@ use Rattle.calls.specs.declared.Entry.{Entry}
 use Rattle.calls.specs.declared.Act.{Act}
 use Rattle.calls.specs.declared.Call.{Call}
 use Rattle.calls.specs.declared.Call.the-variants.{Enter, Own, TakeOff}
-use Rattle.calls.specs.declared.Request.the-variants.{OnTable}
-use Rattle.calls.specs.declared.Refusal.the-variants.{BadSetting, BadEntry, OnLine, LineFull, BadHead, NoTrain, NotLeaving}
+use Rattle.calls.specs.declared.Ask.the-variants.{Open, OnTable}
+use Rattle.calls.specs.declared.Request.{Request}
+use Rattle.calls.specs.declared.Refusal.the-variants.{OutOfTurn, BadSetting, BadEntry, OnLine, LineFull, BadHead, NoTrain, NotLeaving}
 use Rattle.calls.specs.declared.Answer.the-variants.{Accepted, Refused}
 use Rattle.calls.specs.declared.Values.the-variants.{Entered, Zeros}
 use Rattle.calls.specs.Answers.{numbers, numbersOf}
+use Rattle.calls.specs.Requests.{request}
 use Rattle.calls.proofs.Answers.{accepted-0}
 use Rattle.acts.specs.declared.Verdict.{Verdict}
 use Rattle.train.specs.Ranges.{settingsInRange, settingsOf}
@@ -41,9 +43,9 @@ use Rattle.table.specs.declared.Change.the-variants.{Stay, Add, DropFirst, Anew
 use Rattle.table.specs.Table.{placeOf, trainAt, limitAt, changed}
 use Rattle.table.proofs.Places.{FoundAt}
 use Rattle.line.specs.declared.Decision.{Decision}
-use Rattle.line.specs.Decide.{refused, accepted, openDecision, enterDecision, rulingAt, decideOn}
-use Rattle.line.specs.Step.{outcome, carriedOut, openStep, step}
-use Rattle.line.proofs.Steps.{any-call, open-taken, open-refused, open-made, enter-unfit, enter-fit, enter-bad, enter-known, enter-full, enter-short, enter-beyond, enter-taken, own-unknown, take-off-unknown, placed, own-found, take-off-refused, take-off-taken}
+use Rattle.line.specs.Decide.{refused, accepted, openDecision, enterDecision, rulingAt, decideOn, decided}
+use Rattle.line.specs.Step.{outcome, carriedOut, requested, openStep, step}
+use Rattle.line.proofs.Steps.{any-call, any-request, open-taken, open-refused, open-made, enter-unfit, enter-fit, enter-bad, enter-known, enter-full, enter-short, enter-beyond, enter-taken, own-unknown, take-off-unknown, placed, own-found, take-off-refused, take-off-taken}
 
 -- ---- a refusal gives its number and zeros, and the whole table stays
 
@@ -51,23 +53,36 @@ use Rattle.line.proofs.Steps.{any-call, open-taken, open-refused, open-
 abbrev Kept : Decision → Type 0
 Kept d = (numbersOf (d .answer) .number ≡ 0) ⊎ ((numbersOf (d .answer) ≡ numbers (numbersOf (d .answer) .number) 0 0 0) × (d .change ≡ Stay))
 
-pub refusal-keeps : (t : Table) (c : Call) → (numbersOf (step t c .answer) .number ≡ 0 → ⊥)
-    → (numbersOf (step t c .answer) ≡ numbers (numbersOf (step t c .answer) .number) 0 0 0) × (step t c .table ≡ t)
-unfolding step
-refusal-keeps t c refuses =
-    go (decideOn t (OnTable c))
-    (any-call t (λ c d. Kept d)
-    (record {
-      refuses = λ c r. inr (refl, refl);
-      enters = λ e k q passes. inl refl;
-      acts = λ id i a q passes. inl (accepted-0 (rulingAt t a i .gives));
-      leaves = λ id i q may. inl refl;
-    }) c) refuses
+pub refusal-keeps : (t : Table) (r : Request) → (numbersOf (requested true t r .answer) .number ≡ 0 → ⊥)
+    → (numbersOf (requested true t r .answer) ≡ numbers (numbersOf (requested true t r .answer) .number) 0 0 0) × (requested true t r .table ≡ t)
+refusal-keeps t r refuses = go (decided true t r) (any-request t (λ r d. Kept d) (λ r why. inr (refl, refl)) (λ r c asks. kept c) r) refuses
   where
+    kept : (c : Call) → Kept (decideOn t (OnTable c))
+    kept =
+        any-call t (λ c d. Kept d)
+        (record {
+          refuses = λ c r. inr (refl, refl);
+          enters = λ e k q passes. inl refl;
+          acts = λ id i a q passes. inl (accepted-0 (rulingAt t a i .gives));
+          leaves = λ id i q may. inl refl;
+        })
+
     go : (d : Decision) → Kept d → (numbersOf (d .answer) .number ≡ 0 → ⊥)
         → (numbersOf (d .answer) ≡ numbers (numbersOf (d .answer) .number) 0 0 0) × (changed t (d .change) ≡ t)
     go d (inl e) refuses = absurd (refuses e)
     go d (inr (zeros, stays)) refuses = (zeros, ap (changed t) stays)
+
+-- ---- out of turn
+
+-- 2 "call before an accepted opening"
+pub call-2 : (t : Table) (c : Call) → decided false t (request (OnTable c)) ≡ refused OutOfTurn
+unfolding decided
+call-2 t c = refl
+
+-- 2 "or an opening after one"
+pub open-2 : (t : Table) (o : Opening) → decided true t (request (Open o)) ≡ refused OutOfTurn
+unfolding decided
+open-2 t o = refl
 
 -- ---- open
 
@@ -120,8 +135,8 @@ module _ (t : Table) (e : Entry) where
     ranged = rw (train-id (e .id) .1 (r .id), starting-number (e .start) .1 (omega arith, r .start))
 
     -- whatever its figures, and it has some
-    decided : (d : Decision) → ((k : Figures) → enterDecision t e (Given k) ≡ d) → step t (Enter e) ≡ carriedOut t d
-    decided d q = go (figuresFor (t .settings) e) refl
+    consist-fits : (d : Decision) → ((k : Figures) → enterDecision t e (Given k) ≡ d) → step t (Enter e) ≡ carriedOut t d
+    consist-fits d q = go (figuresFor (t .settings) e) refl
       where
         go : (f : FiguresFound) → figuresFor (t .settings) e ≡ f → step t (Enter e) ≡ carriedOut t d
         go NoFigures f = absurd (no-figures-exactly (e .load) (e .length) .0 f (r .length .0, r .length .1, r .load .0, r .load .1))
@@ -129,22 +144,22 @@ module _ (t : Table) (e : Entry) where
 
     -- 5 "id on the line already"
     pub enter-5 : (i : ℕ) → placeOf t (e .id) ≡ some i → step t (Enter e) ≡ outcome (Refused OnLine) t
-    enter-5 i known = decided _ (λ k. enter-known t e k ranged i known)
+    enter-5 i known = consist-fits _ (λ k. enter-known t e k ranged i known)
 
     module _ (absent : placeOf t (e .id) ≡ none) where
       -- 6 "32 trains on the line"
       pub enter-6 : 32 ≤ t .count → step t (Enter e) ≡ outcome (Refused LineFull) t
-      enter-6 full = decided _ (λ k. enter-full t e k ranged absent full)
+      enter-6 full = consist-fits _ (λ k. enter-full t e k ranged absent full)
 
       module _ (free : t .count < 32) where
         -- 7 "entering head not in its range": "the head must be at least the length and at most the limit"
         pub enter-7 : (e .head < 6096000 * e .length) ⊎ (InLimit (limitAt t (t .count)) (e .head) → ⊥) → step t (Enter e) ≡ outcome (Refused BadHead) t
         unfolding stepsOf
-        enter-7 (inl short) = decided _ (λ k. enter-short t e k ranged absent free short)
+        enter-7 (inl short) = consist-fits _ (λ k. enter-short t e k ranged absent free short)
         enter-7 (inr far) =
             by-cases (decLe (6096000 * e .length) (e .head))
-            (λ long. decided _ (λ k. enter-beyond t e k ranged absent free long (limit-beyond (limitAt t (t .count)) (e .head) far)))
-            (λ short. decided _ (λ k. enter-short t e k ranged absent free (omega arith)))
+            (λ long. consist-fits _ (λ k. enter-beyond t e k ranged absent free long (limit-beyond (limitAt t (t .count)) (e .head) far)))
+            (λ short. consist-fits _ (λ k. enter-short t e k ranged absent free (omega arith)))
 
         -- "behind the last train, standing; end = head, order brake, level B, not held, and a starting request number for this stay"
         pub enter-accepted : (k : Figures) → Described (e .load) (e .length) k → 6096000 * e .length ≤ e .head → InLimit (limitAt t (t .count)) (e .head)

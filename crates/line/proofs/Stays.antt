@@ -12,6 +12,9 @@ use Rattle.calls.specs.declared.Entry.{Entry}
 use Rattle.calls.specs.declared.Act.{Act}
 use Rattle.calls.specs.declared.Call.{Call}
 use Rattle.calls.specs.declared.Call.the-variants.{Enter, Own, TakeOff}
+use Rattle.calls.specs.declared.Ask.{Ask}
+use Rattle.calls.specs.declared.Ask.the-variants.{Open, OnTable}
+use Rattle.calls.specs.declared.Request.{Request}
 use Rattle.calls.specs.declared.Refusal.{Refusal}
 use Rattle.calls.specs.Answers.{numbersOf}
 use Rattle.calls.specs.Checks.{firstOf}
@@ -31,8 +34,8 @@ use Rattle.table.proofs.Trains.{Sized, sized-with, sized-last, sized-without-fi
 use Rattle.table.proofs.Sentences.{FirstWith, found-exactly, put-leaves, add-leaves, drop-leaves}
 use Rattle.line.specs.declared.Decision.{Decision}
 use Rattle.line.specs.Decide.{refused, enterChecks, rulingAt}
-use Rattle.line.specs.Step.{step}
-use Rattle.line.proofs.Steps.{any-call, enter-room}
+use Rattle.line.specs.Step.{requested, step}
+use Rattle.line.proofs.Steps.{any-call, any-request, enter-room}
 
 -- ---- the table has its 32 places, and no more are in use
 
@@ -47,6 +50,10 @@ sized-step t sized =
       leaves = λ j p f may. let below = found-below t j p f in sized-without-first t sized (omega arith);
     })
 
+pub sized-request : (t : Table) → Sized t → (r : Request) → Sized (requested true t r .table)
+unfolding step
+sized-request t sized = any-request t (λ r d. Sized (changed t (d .change))) (λ r why. sized) (λ r c asks. sized-step t sized c)
+
 -- ---- what it works with stays
 
 pub settings-step : (t : Table) (c : Call) → step t c .table .settings ≡ t .settings
@@ -54,6 +61,10 @@ unfolding step
 settings-step t =
     any-call t (λ c d. changed t (d .change) .settings ≡ t .settings)
     (record { refuses = λ c r. refl; enters = λ e k f q. refl; acts = λ j p a f q. refl; leaves = λ j p f may. refl })
+
+pub settings-request : (t : Table) (r : Request) → requested true t r .table .settings ≡ t .settings
+unfolding step
+settings-request t = any-request t (λ r d. changed t (d .change) .settings ≡ t .settings) (λ r why. refl) (λ r c asks. settings-step t c)
 
 -- ---- an accepted act
 
@@ -93,12 +104,13 @@ pub record Holds (Q : Train → Type 0) (id : ℕ) (t : Table) : Type 0 where
   pub found : placeOf t id ≡ some place
   pub so : Q (trainAt t place)
 
--- the call with this answer number does not take it off, and if it is an accepted act of it, keeps the property
-abbrev pub Keeps : (Train → Type 0) → ℕ → ℕ → Call → Type 0
-Keeps Q id n (Enter e) = Unit {0}
-Keeps Q id n (Own j a) =
+-- what is asked, with this answer number, does not take it off, and if it is an accepted act of it, keeps the property
+abbrev pub Keeps : (Train → Type 0) → ℕ → ℕ → Ask → Type 0
+Keeps Q id n (Open o) = Unit {0}
+Keeps Q id n (OnTable (Enter e)) = Unit {0}
+Keeps Q id n (OnTable (Own j a)) =
     j ≡ id → n ≡ 0 → (σ : Settings) (limit : Limit) (x : Train) → firstOf (decide σ limit x a .checks) ≡ none → Q x → Q (decide σ limit x a .after)
-Keeps Q id n (TakeOff j) = j ≡ id → n ≡ 0 → ⊥
+Keeps Q id n (OnTable (TakeOff j)) = j ≡ id → n ≡ 0 → ⊥
 
 module _ (Q : Train → Type 0) (id : ℕ) (t : Table) (sized : Sized t) (h : Holds Q id t) where
   abbrev i : ℕ
@@ -125,7 +137,7 @@ module _ (Q : Train → Type 0) (id : ℕ) (t : Table) (sized : Sized t) (h : Ho
         so = subst Q (sym (there i below)) (h .so);
       }
 
-  after-act : (j p : ℕ) (a : Act) → placeOf t j ≡ some p → firstOf (rulingAt t a p .checks) ≡ none → Keeps Q id 0 (Own j a) → Holds Q id (changed t (Put p (rulingAt t a p .after)))
+  after-act : (j p : ℕ) (a : Act) → placeOf t j ≡ some p → firstOf (rulingAt t a p .checks) ≡ none → Keeps Q id 0 (OnTable (Own j a)) → Holds Q id (changed t (Put p (rulingAt t a p .after)))
   after-act j p a f q keeps =
       let y = rulingAt t a p .after in
       let same = act-leaves (t .settings) _ (trainAt t p) a .id in
@@ -164,15 +176,21 @@ module _ (Q : Train → Type 0) (id : ℕ) (t : Table) (sized : Sized t) (h : Ho
             so = subst Q (ap (λ (m : ℕ). trainAt t m) e ∙ sym (there n below)) (h .so);
           }
 
-  -- after any call that keeps it
-  pub still-holds : (c : Call) → Keeps Q id (numbersOf (step t c .answer) .number) c → Holds Q id (step t c .table)
+  after-call : (c : Call) → Keeps Q id (numbersOf (step t c .answer) .number) (OnTable c) → Holds Q id (step t c .table)
   unfolding step
-  still-holds =
-      any-call t (λ c d. Keeps Q id (numbersOf (d .answer) .number) c → Holds Q id (changed t (d .change)))
+  after-call =
+      any-call t (λ c d. Keeps Q id (numbersOf (d .answer) .number) (OnTable c) → Holds Q id (changed t (d .change)))
       (record {
         refuses = λ c r keeps. h;
         enters = λ e k f q keeps. after-enter e k q;
         acts = λ j p a f q keeps.
-            after-act j p a f q (subst (λ (n : ℕ). Keeps Q id n (Own j a)) (accepted-0 (rulingAt t a p .gives)) keeps);
+            after-act j p a f q (subst (λ (n : ℕ). Keeps Q id n (OnTable (Own j a))) (accepted-0 (rulingAt t a p .gives)) keeps);
         leaves = λ j p f may off. after-off j p f may (λ mine. off mine refl);
       })
+
+  -- after any request that keeps it
+  pub still-holds : (r : Request) → Keeps Q id (numbersOf (requested true t r .answer) .number) (r .asks) → Holds Q id (requested true t r .table)
+  unfolding step
+  still-holds =
+      any-request t (λ r d. Keeps Q id (numbersOf (d .answer) .number) (r .asks) → Holds Q id (changed t (d .change))) (λ r why keeps. h)
+      (λ r c asks keeps. after-call c (subst (Keeps Q id (numbersOf (step t c .answer) .number)) asks keeps))

@@ -2,7 +2,7 @@
 -- checks.
 -- Assumes nothing.
 use Prim.Native.Nat.{ℕ, _≤_, _<_}
-use mathlib.Core.Bool.{true, false, not, _&&_}
+use mathlib.Core.Bool.{Bool, true, false, cond, not, _&&_}
 use mathlib.Core.Option.{Option, none, some}
 use mathlib.Core.List.{[], _∷_}
 use mathlib.Core.Path.{_≡_, refl, sym, ap, _∙_}
@@ -19,9 +19,11 @@ use Rattle.calls.specs.declared.Entry.{Entry}
 use Rattle.calls.specs.declared.Act.{Act}
 use Rattle.calls.specs.declared.Call.{Call}
 use Rattle.calls.specs.declared.Call.the-variants.{Enter, Own, TakeOff}
-use Rattle.calls.specs.declared.Request.the-variants.{OnTable}
+use Rattle.calls.specs.declared.Ask.{Ask}
+use Rattle.calls.specs.declared.Ask.the-variants.{Open, OnTable}
+use Rattle.calls.specs.declared.Request.{Request}
 use Rattle.calls.specs.declared.Refusal.{Refusal}
-use Rattle.calls.specs.declared.Refusal.the-variants.{BadSetting, BadEntry, OnLine, LineFull, BadHead, NoTrain, NotLeaving}
+use Rattle.calls.specs.declared.Refusal.the-variants.{OutOfTurn, BadSetting, BadEntry, OnLine, LineFull, BadHead, NoTrain, NotLeaving}
 use Rattle.calls.specs.declared.Answer.the-variants.{Accepted}
 use Rattle.calls.specs.declared.Values.{Values}
 use Rattle.calls.specs.declared.Values.the-variants.{Entered, Zeros}
@@ -43,7 +45,7 @@ use Rattle.table.specs.Table.{places, emptyTable, placeOf, trainAt, limitAt, Fi
 use Rattle.table.proofs.Places.{found-among, found-below, FoundAt}
 use Rattle.line.specs.declared.Decision.{Decision}
 use Rattle.line.specs.declared.Outcome.{Outcome}
-use Rattle.line.specs.Decide.{refused, accepted, judged, openDecision, enterChecks, enterDecision, rulingAt, actDecision, takeOffDecision, named, decideOn}
+use Rattle.line.specs.Decide.{refused, accepted, judged, openDecision, enterChecks, enterDecision, rulingAt, actDecision, takeOffDecision, named, decideOn, outOfTurn, decided}
 use Rattle.line.specs.Step.{outcome, openStep}
 
 -- ---- any call: refused, or accepted with all checks passed
@@ -88,8 +90,8 @@ pub enter-room : (t : Table) (e : Entry) → firstOf (enterChecks t e) ≡ none 
 enter-room t e passes = leb-false places (t .count) (passed _ _ _ (passed _ _ _ (passed _ _ _ passes .1) .1) .0)
 
 -- the table has the place that the change needs
-pub decided-fits : (t : Table) → length (t .trains) ≡ places → (c : Call) → Fits t (decideOn t (OnTable c) .change)
-decided-fits t size =
+call-fits : (t : Table) → length (t .trains) ≡ places → (c : Call) → Fits t (decideOn t (OnTable c) .change)
+call-fits t size =
     any-call t (λ c d. Fits t (d .change))
     (record {
       refuses = λ c r. tt;
@@ -97,6 +99,17 @@ decided-fits t size =
       acts = λ id i a q passes. let among = found-among t id i q in let all = length-take (t .count) (t .trains) in omega arith;
       leaves = λ id i q may. let below = found-below t id i q in omega arith;
     })
+
+-- ---- any request on an opened line: refused, or what its call comes to
+
+pub any-request : (t : Table) (P : Request → Decision → Type 0) → ((r : Request) (why : Refusal) → P r (refused why))
+    → ((r : Request) (c : Call) → r .asks ≡ OnTable c → P r (decideOn t (OnTable c))) → (r : Request) → P r (decided true t r)
+unfolding decided
+any-request t P refuses does r = go (r .asks) refl
+  where
+    go : (a : Ask) → r .asks ≡ a → P r (cond (outOfTurn true a) (refused OutOfTurn) (decideOn t a))
+    go (Open o) e = refuses r OutOfTurn
+    go (OnTable c) e = does r c e
 
 -- ---- open
 
@@ -108,8 +121,16 @@ pub open-refused : (o : Opening) → settingsInRange o ≡ false → openDecisio
 unfolding openDecision firstOf
 open-refused o e = rw (e, openDecision)
 
-pub open-fits : (t : Table) (o : Opening) → Fits t (openDecision o .change)
+open-fits : (t : Table) (o : Opening) → Fits t (openDecision o .change)
 open-fits t o = by-test (settingsInRange o) (λ e. rw (open-taken o e) tt) (λ e. rw (open-refused o e) tt)
+
+pub decided-fits : (opened : Bool) (t : Table) → length (t .trains) ≡ places → (r : Request) → Fits t (decided opened t r .change)
+unfolding decideOn decided
+decided-fits opened t size r = by-test (outOfTurn opened (r .asks)) (λ e. rw e tt) (λ e. rw e (fits (r .asks)))
+  where
+    fits : (a : Ask) → Fits t (decideOn t a .change)
+    fits (Open o) = open-fits t o
+    fits (OnTable c) = call-fits t size c
 
 -- what an accepted opening has passed, and made
 pub open-made : (o : Opening) (t : Table) → openStep o ≡ outcome (Accepted Zeros) t → (settingsInRange o ≡ true) × (t ≡ emptyTable (settingsOf o))

@@ -1,7 +1,7 @@
 -- Document 01, "Authorities" and "What is turned down": a request on a table is decided. The decision is the answer and what changes in the
 -- table, for every table and every number.
 use Prim.Native.Nat.{ℕ}
-use mathlib.Core.Bool.{not, _&&_}
+use mathlib.Core.Bool.{Bool, cond, not, _&&_}
 use mathlib.Core.Option.{Option, none, some}
 use mathlib.Core.List.{List, [], _∷_}
 use lib.Dec.{leb}
@@ -13,10 +13,11 @@ use Rattle.calls.specs.declared.Opening.{Opening}
 use Rattle.calls.specs.declared.Entry.{Entry}
 use Rattle.calls.specs.declared.Act.{Act}
 use Rattle.calls.specs.declared.Call.the-variants.{Enter, Own, TakeOff}
+use Rattle.calls.specs.declared.Ask.{Ask}
+use Rattle.calls.specs.declared.Ask.the-variants.{Open, OnTable}
 use Rattle.calls.specs.declared.Request.{Request}
-use Rattle.calls.specs.declared.Request.the-variants.{Open, OnTable}
 use Rattle.calls.specs.declared.Refusal.{Refusal}
-use Rattle.calls.specs.declared.Refusal.the-variants.{BadSetting, BadEntry, OnLine, LineFull, BadHead, NoTrain, NotLeaving}
+use Rattle.calls.specs.declared.Refusal.the-variants.{OutOfTurn, BadSetting, BadEntry, OnLine, LineFull, BadHead, NoTrain, NotLeaving}
 use Rattle.calls.specs.declared.Answer.the-variants.{Accepted, Refused}
 use Rattle.calls.specs.declared.Values.{Values}
 use Rattle.calls.specs.declared.Values.the-variants.{Entered, Zeros}
@@ -78,8 +79,18 @@ abbrev pub named : Option ℕ → (ℕ → Decision) → Decision
 named none d = refused NoTrain
 named (some i) d = d i
 
-unfoldable pub decideOn : Table → Request → Decision
+-- what is asked of a table
+unfoldable pub decideOn : Table → Ask → Decision
 decideOn t (Open o) = openDecision o
 decideOn t (OnTable (Enter e)) = enterDecision t e (figuresFor (t .settings) e)
 decideOn t (OnTable (Own id a)) = named (placeOf t id) (actDecision t a)
 decideOn t (OnTable (TakeOff id)) = named (placeOf t id) (takeOffDecision t)
+
+-- 2 call before an accepted opening, or an opening after one
+abbrev pub outOfTurn : Bool → Ask → Bool
+outOfTurn opened (Open o) = opened
+outOfTurn opened (OnTable c) = not opened
+
+-- a request, before an accepted opening or after one: 2, then what is asked
+unfoldable pub decided : Bool → Table → Request → Decision
+decided opened t r = cond (outOfTurn opened (r .asks)) (refused OutOfTurn) (decideOn t (r .asks))

@@ -1,14 +1,16 @@
--- Decide, then change: the answer to a call and the table after it.
+-- Decide, then change: the answer and the table after it.
+use mathlib.Core.Bool.{Bool}
 use Rattle.calls.specs.declared.Opening.{Opening}
 use Rattle.calls.specs.declared.Call.{Call}
-use Rattle.calls.specs.declared.Request.the-variants.{OnTable}
+use Rattle.calls.specs.declared.Ask.the-variants.{OnTable}
+use Rattle.calls.specs.declared.Request.{Request}
 use Rattle.calls.specs.declared.Answer.{Answer}
 use Rattle.train.specs.Ranges.{settingsOf}
 use Rattle.table.specs.declared.Table.{Table}
 use Rattle.table.specs.Table.{emptyTable, changed}
 use Rattle.line.specs.declared.Decision.{Decision}
 use Rattle.line.specs.declared.Outcome.{Outcome}
-use Rattle.line.specs.Decide.{openDecision, decideOn}
+use Rattle.line.specs.Decide.{openDecision, decideOn, decided}
 
 abbrev pub outcome : Answer → Table → Outcome
 outcome a t = record { answer = a; table = t }
@@ -16,11 +18,15 @@ outcome a t = record { answer = a; table = t }
 abbrev pub carriedOut : Table → Decision → Outcome
 carriedOut t d = outcome (d .answer) (changed t (d .change))
 
--- any call but open
+-- a request, before an accepted opening or after one
+abbrev pub requested : Bool → Table → Request → Outcome
+requested opened t r = carriedOut t (decided opened t r)
+
+-- what any call but open does
 unfoldable pub step : Table → Call → Outcome
 step t c = carriedOut t (decideOn t (OnTable c))
 
--- Open takes no table. Refused, it makes none: zeros stand for one.
+-- What open does. It takes no table. Refused, it makes none: zeros stand for one.
 abbrev pub noTable : Table
 noTable = emptyTable (settingsOf (record { end = 0; safety = 0; ceiling = 0; traction = 0 }))
 

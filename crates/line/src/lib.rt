@@ -1,16 +1,18 @@
 // The calls on the table of trains: document 01, "Authorities" and "What is turned down". Each is decided first, and then the table
 // is changed.
 ghost use mathlib.Core.Path.{_≡_};
-ghost use mathlib.Core.Bool.{true, _&&_};
+ghost use mathlib.Core.Bool.{true, false, _&&_};
 ghost use Prim.Native.Nat.{_≤_};
 ghost use Rattle.ranges.specs.Ranges.{greatestLength, idInRange, startInRange};
-ghost use Rattle.line.specs.Decide.{refused, accepted, openDecision, enterDecision, decideOn};
-ghost use Rattle.line.specs.Step.{noTable, openStep, step};
+ghost use Rattle.calls.specs.Requests.{request};
+ghost use Rattle.line.specs.Decide.{refused, accepted, openDecision, enterDecision, decideOn, outOfTurn, decided};
+ghost use Rattle.line.specs.Step.{noTable, requested};
 use acts::Verdict;
 use brake::Figures;
 use brake::FiguresFound;
 use calls::Act;
 use calls::Answer;
+use calls::Ask;
 use calls::Asked;
 use calls::Call;
 use calls::Entry;
@@ -68,7 +70,7 @@ fn decide_open(o: Opening) -> Decision
 
 // Enter: behind the last train, standing.
 fn decide_enter(t: Table, e: Entry) -> Decision
-    ensures { λ d. ⌜ d ≡ decideOn t (Request.OnTable (Call.Enter e)) ⌝ }
+    ensures { λ d. ⌜ d ≡ decideOn t (Ask.OnTable (Call.Enter e)) ⌝ }
 {
     let s = t.settings;
     let FiguresFound::Given(k) = train::figures_for(s, e) else {
@@ -111,7 +113,7 @@ fn enter_with(t: Table, e: Entry, k: Figures) -> Decision
 
 // An act of the train with this id.
 fn decide_own(t: Table, id: u64, a: Act) -> Decision
-    ensures { λ d. ⌜ d ≡ decideOn t (Request.OnTable (Call.Own id a)) ⌝ }
+    ensures { λ d. ⌜ d ≡ decideOn t (Ask.OnTable (Call.Own id a)) ⌝ }
 {
     let Found::At(i, limit, x) = table::find(t, id) else {
         return refuse(Refusal::NoTrain);
@@ -125,7 +127,7 @@ fn decide_own(t: Table, id: u64, a: Act) -> Decision
 
 // Take off: the first train, standing under brake. The yard's word that its track is clear is taken.
 fn decide_take_off(t: Table, id: u64) -> Decision
-    ensures { λ d. ⌜ d ≡ decideOn t (Request.OnTable (Call.TakeOff id)) ⌝ }
+    ensures { λ d. ⌜ d ≡ decideOn t (Ask.OnTable (Call.TakeOff id)) ⌝ }
 {
     let Found::At(i, _, x) = table::find(t, id) else {
         return refuse(Refusal::NoTrain);
@@ -137,7 +139,7 @@ fn decide_take_off(t: Table, id: u64) -> Decision
 }
 
 fn decide_call(t: Table, c: Call) -> Decision
-    ensures { λ d. ⌜ d ≡ decideOn t (Request.OnTable c) ⌝ }
+    ensures { λ d. ⌜ d ≡ decideOn t (Ask.OnTable c) ⌝ }
 {
     match c {
         Call::Enter(e) => decide_enter(t, e),
@@ -146,23 +148,43 @@ fn decide_call(t: Table, c: Call) -> Decision
     }
 }
 
-// Any request, on a table that stays as it is.
-pub fn decide(t: Table, r: Request) -> Decision
-    ensures { λ d. ⌜ d ≡ decideOn t r ⌝ }
+fn decide_ask(t: Table, a: Ask) -> Decision
+    ensures { λ d. ⌜ d ≡ decideOn t a ⌝ }
 {
-    match r {
-        Request::Open(o) => decide_open(o),
-        Request::OnTable(c) => decide_call(t, c),
+    match a {
+        Ask::Open(o) => decide_open(o),
+        Ask::OnTable(c) => decide_call(t, c),
     }
+}
+
+// Whether a request comes out of turn: a call before an accepted opening, or an opening after one.
+fn out_of_turn(opened: bool, a: Ask) -> bool
+    ensures { λ o. ⌜ o ≡ outOfTurn opened a ⌝ }
+{
+    match a {
+        Ask::Open(_) => opened,
+        Ask::OnTable(_) => !opened,
+    }
+}
+
+// Any request, before an accepted opening or after one, on a table that stays as it is.
+pub fn decide(opened: bool, t: Table, r: Request) -> Decision
+    ensures { λ d. ⌜ d ≡ decided opened t r ⌝ }
+{
+    let asks = r.asks;
+    if out_of_turn(opened, asks) {
+        return refuse(Refusal::OutOfTurn);
+    }
+    decide_ask(t, asks)
 }
 
 // ---- then change
 
-// Any call but open.
-pub fn apply(t: Table, c: Call) -> Outcome
-    ensures { λ r. ⌜ r ≡ step t c ⌝ }
+// Any request, before an accepted opening or after one.
+pub fn apply(opened: bool, t: Table, r: Request) -> Outcome
+    ensures { λ o. ⌜ o ≡ requested opened t r ⌝ }
 {
-    let d = decide_call(t, c);
+    let d = decide(opened, t, r);
     let answer = d.answer;
     let change = d.change;
     Outcome {
@@ -184,55 +206,62 @@ pub fn no_table() -> Table
 }
 
 pub fn open(o: Opening) -> Outcome
-    ensures { λ r. ⌜ r ≡ openStep o ⌝ }
+    ensures { λ r. ⌜ r ≡ requested false noTable (request (Ask.Open o)) ⌝ }
 {
-    let d = decide_open(o);
-    let answer = d.answer;
-    let change = d.change;
-    Outcome {
-        answer,
-        table: table::carry_out(no_table(), change),
-    }
+    apply(false, no_table(), Request { asks: Ask::Open(o) })
+}
+
+// Any call but open.
+fn call(t: Table, c: Call) -> Outcome
+    ensures { λ r. ⌜ r ≡ requested true t (request (Ask.OnTable c)) ⌝ }
+{
+    apply(
+        true,
+        t,
+        Request {
+            asks: Ask::OnTable(c),
+        },
+    )
 }
 
 pub fn enter(t: Table, e: Entry) -> Outcome
-    ensures { λ r. ⌜ r ≡ step t (Call.Enter e) ⌝ }
+    ensures { λ r. ⌜ r ≡ requested true t (request (Ask.OnTable (Call.Enter e))) ⌝ }
 {
-    apply(t, Call::Enter(e))
+    call(t, Call::Enter(e))
 }
 
 pub fn report(t: Table, id: u64, r: Reading) -> Outcome
-    ensures { λ o. ⌜ o ≡ step t (Call.Own id (Act.Report r)) ⌝ }
+    ensures { λ o. ⌜ o ≡ requested true t (request (Ask.OnTable (Call.Own id (Act.Report r)))) ⌝ }
 {
-    apply(t, Call::Own(id, Act::Report(r)))
+    call(t, Call::Own(id, Act::Report(r)))
 }
 
 pub fn extend(t: Table, id: u64, q: Asked) -> Outcome
-    ensures { λ r. ⌜ r ≡ step t (Call.Own id (Act.Extend q)) ⌝ }
+    ensures { λ r. ⌜ r ≡ requested true t (request (Ask.OnTable (Call.Own id (Act.Extend q)))) ⌝ }
 {
-    apply(t, Call::Own(id, Act::Extend(q)))
+    call(t, Call::Own(id, Act::Extend(q)))
 }
 
 pub fn call_back(t: Table, id: u64, place: u64) -> Outcome
-    ensures { λ r. ⌜ r ≡ step t (Call.Own id (Act.CallBack place)) ⌝ }
+    ensures { λ r. ⌜ r ≡ requested true t (request (Ask.OnTable (Call.Own id (Act.CallBack place)))) ⌝ }
 {
-    apply(t, Call::Own(id, Act::CallBack(place)))
+    call(t, Call::Own(id, Act::CallBack(place)))
 }
 
 pub fn hold(t: Table, id: u64) -> Outcome
-    ensures { λ r. ⌜ r ≡ step t (Call.Own id Act.Hold) ⌝ }
+    ensures { λ r. ⌜ r ≡ requested true t (request (Ask.OnTable (Call.Own id Act.Hold))) ⌝ }
 {
-    apply(t, Call::Own(id, Act::Hold))
+    call(t, Call::Own(id, Act::Hold))
 }
 
 pub fn lift(t: Table, id: u64) -> Outcome
-    ensures { λ r. ⌜ r ≡ step t (Call.Own id Act.Lift) ⌝ }
+    ensures { λ r. ⌜ r ≡ requested true t (request (Ask.OnTable (Call.Own id Act.Lift))) ⌝ }
 {
-    apply(t, Call::Own(id, Act::Lift))
+    call(t, Call::Own(id, Act::Lift))
 }
 
 pub fn take_off(t: Table, id: u64) -> Outcome
-    ensures { λ r. ⌜ r ≡ step t (Call.TakeOff id) ⌝ }
+    ensures { λ r. ⌜ r ≡ requested true t (request (Ask.OnTable (Call.TakeOff id))) ⌝ }
 {
-    apply(t, Call::TakeOff(id))
+    call(t, Call::TakeOff(id))
 }

@@ -1,4 +1,4 @@
--- Every call, refused or not, keeps the invariant of a table under its history; so every list of calls does.
+-- Every request, refused or not, keeps the invariant of a table under its history; so every list of requests does.
 -- Assumes nothing.
 use Prim.Native.Nat.{ℕ}
 use mathlib.Core.Bool.{true}
@@ -19,7 +19,8 @@ use Rattle.calls.specs.declared.Entry.{Entry}
 use Rattle.calls.specs.declared.Act.{Act}
 use Rattle.calls.specs.declared.Call.{Call}
 use Rattle.calls.specs.declared.Call.the-variants.{Enter, Own, TakeOff}
-use Rattle.calls.specs.declared.Request.the-variants.{OnTable}
+use Rattle.calls.specs.declared.Ask.the-variants.{OnTable}
+use Rattle.calls.specs.declared.Request.{Request}
 use Rattle.calls.specs.declared.Refusal.{Refusal}
 use Rattle.calls.specs.declared.Answer.{Answer}
 use Rattle.calls.specs.declared.Answer.the-variants.{Accepted, Refused}
@@ -43,9 +44,9 @@ use Rattle.table.specs.Table.{emptyTable, placeOf, trainAt, limitAt}
 use Rattle.table.proofs.Places.{found-below, not-found}
 use Rattle.table.proofs.Trains.{sized-empty, line-with, sized-with, line-last, sized-last, line-without-first, sized-without-first}
 use Rattle.line.specs.declared.Decision.{Decision}
-use Rattle.line.specs.Decide.{accepted, enterChecks, rulingAt, decideOn}
-use Rattle.line.specs.Step.{outcome, carriedOut, openStep, step}
-use Rattle.line.proofs.Steps.{any-call, enter-room, open-made}
+use Rattle.line.specs.Decide.{refused, accepted, enterChecks, rulingAt, decided}
+use Rattle.line.specs.Step.{outcome, carriedOut, openStep}
+use Rattle.line.proofs.Steps.{any-call, any-request, enter-room, open-made}
 use Rattle.safety.specs.History.{Event, history, after, isAccepted, Told, toldEntering, toldCall, toldBy, told}
 use Rattle.safety.specs.Claim.{recordOf}
 use Rattle.safety.proofs.Train.{guarded-entering}
@@ -54,35 +55,44 @@ use Rattle.safety.proofs.Finding.{IsAt}
 use Rattle.safety.proofs.Line.{limitIn, firstLimit, lined-act, lined-enter, lined-off}
 use Rattle.safety.proofs.Tables.{Agrees, agrees-count, agrees-train, agrees-limit, agrees-absent, agrees-place}
 
-abbrev pub event : Call → Answer → Event
-event c r = record { call = c; answer = numbersOf r }
+abbrev pub event : Request → Answer → Event
+event r a = record { request = r; answer = numbersOf a }
 
-module _ (xs : List Told) (c : Call) where
-  told-refused : (r : Refusal) → toldBy xs (event c (Refused r)) ≡ xs
+module _ (xs : List Told) (r : Request) where
+  told-refused : (why : Refusal) → toldBy xs (event r (Refused why)) ≡ xs
   unfolding toldBy isAccepted
-  told-refused r = rw (refusal-not-0 r)
+  told-refused why = rw (refusal-not-0 why)
 
-  told-accepted : (v : Values) → toldBy xs (event c (Accepted v)) ≡ toldCall xs (numbersOf (Accepted v)) c
+  told-accepted : (c : Call) (v : Values) → r .asks ≡ OnTable c → toldBy xs (event r (Accepted v)) ≡ toldCall xs (numbersOf (Accepted v)) (OnTable c)
   unfolding toldBy isAccepted
-  told-accepted v = rw (eq-eqb _ 0 (accepted-0 v))
+  told-accepted c v asks = rw (eq-eqb _ 0 (accepted-0 v), asks)
 
 module _ (σ : Settings) (xs : List Told) (t : Table) (A : Agrees σ xs t) where
-  -- the invariant after the call c
-  abbrev Next : Call → Decision → Type 0
-  Next c d = Agrees σ (toldBy xs (event c (d .answer))) (carriedOut t d .table)
+  -- the invariant after a request
+  abbrev Next : Request → Decision → Type 0
+  Next r d = Agrees σ (toldBy xs (event r (d .answer))) (carriedOut t d .table)
+
+  next-refused : (r : Request) (why : Refusal) → Next r (refused why)
+  next-refused r why =
+      let now = told-refused xs r why in
+      record { settings = A .settings; sized = A .sized; trains = rw now (A .trains); lined = rw now (A .lined) }
+
+  -- after one that asks for the call c
+  abbrev Does : Call → Decision → Type 0
+  Does c d = (r : Request) → r .asks ≡ OnTable c → Next r d
 
   -- ---- an act
 
   next-act : (id i : ℕ) (a : Act) → placeOf t id ≡ some i → firstOf (rulingAt t a i .checks) ≡ none
-      → Next (Own id a) (accepted (rulingAt t a i .gives) (Put i (rulingAt t a i .after)))
+      → Does (Own id a) (accepted (rulingAt t a i .gives) (Put i (rulingAt t a i .after)))
   unfolding toldCall
-  next-act id i a f e =
+  next-act id i a f e r asks =
       let below = found-below t id i f in
       let limit = agrees-limit σ xs t A i (omega arith) in
       let here = agrees-train σ xs t A i below in
       let passes = rw (limit, here) at e in
       let (lined, same) = lined-act (t .settings) id a _ xs i (A .lined) (agrees-place σ xs t A id i f) passes in
-      let now = told-accepted xs (Own id a) (rulingAt t a i .gives) in
+      let now = told-accepted xs r (Own id a) (rulingAt t a i .gives) asks in
       record {
         settings = A .settings;
         sized = sized-with t i _ (A .sized);
@@ -93,9 +103,9 @@ module _ (σ : Settings) (xs : List Told) (t : Table) (A : Agrees σ xs t) where
   -- ---- an entering
 
   next-enter : (e : Entry) (k : Figures) → figuresFor (t .settings) e ≡ Given k → firstOf (enterChecks t e) ≡ none
-      → Next (Enter e) (accepted (Entered (k .full) (k .growth) (e .head)) (Add (entering e k)))
+      → Does (Enter e) (accepted (Entered (k .full) (k .growth) (e .head)) (Add (entering e k)))
   unfolding toldCall recordOf
-  next-enter e k f q =
+  next-enter e k f q r asks =
       let fresh = passed _ _ _ (passed _ _ _ q .1) in
       let room = passed _ _ _ (fresh .1) in
       let place = both (leb (stepsOf (e .length)) (e .head)) _ (not-false _ (passed _ _ _ (room .1) .0)) in
@@ -103,7 +113,7 @@ module _ (σ : Settings) (xs : List Told) (t : Table) (A : Agrees σ xs t) where
       let absent = agrees-absent σ xs t A (e .id) (not-found (placeOf t (e .id)) (fresh .0)) in
       let limit = rw (agrees-limit σ xs t A (t .count) (le-refl _), agrees-count σ xs t A) at (limit-tested (limitAt t (t .count)) (e .head) (place .1)) in
       let v = Entered (k .full) (k .growth) (e .head) in
-      let now = told-accepted xs (Enter e) v in
+      let now = told-accepted xs r (Enter e) v asks in
       let new = toldEntering e (numbersOf (Accepted v)) in
       let steady : Steady (t .settings) (limitIn (t .settings) (firstLimit (t .settings)) xs (length xs)) new =
       record { consist = sym (figures-entered (t .settings) e) ∙ f; guarded = guarded-entering _ _ e k (given-sound (e .load) (e .length) k f) (leb-true _ _ (place .0)) limit; held-slows = tt; braked-slows = tt } in
@@ -116,12 +126,12 @@ module _ (σ : Settings) (xs : List Told) (t : Table) (A : Agrees σ xs t) where
 
   -- ---- a taking off
 
-  next-off : (id i : ℕ) → placeOf t id ≡ some i → mayLeave i (trainAt t i) ≡ true → Next (TakeOff id) (accepted Zeros DropFirst)
+  next-off : (id i : ℕ) → placeOf t id ≡ some i → mayLeave i (trainAt t i) ≡ true → Does (TakeOff id) (accepted Zeros DropFirst)
   unfolding toldCall
-  next-off id i f may =
+  next-off id i f may r asks =
       let place = subst (IsAt id xs) (first-leaves i (trainAt t i) may) (agrees-place σ xs t A id i f) in
       let (lined, same) = lined-off (t .settings) id xs (A .lined) place in
-      let now = told-accepted xs (TakeOff id) Zeros in
+      let now = told-accepted xs r (TakeOff id) Zeros asks in
       record {
         settings = A .settings;
         sized = sized-without-first t (A .sized) (let below = found-below t id i f in omega arith);
@@ -129,32 +139,27 @@ module _ (σ : Settings) (xs : List Told) (t : Table) (A : Agrees σ xs t) where
         lined = rw now lined;
       }
 
-  -- ---- any call
+  -- ---- any request
 
-  next-call : (c : Call) → Next c (decideOn t (OnTable c))
-  next-call =
-      any-call t Next
-      (record {
-        refuses = λ c r.
-            let now = told-refused xs c r in
-            record { settings = A .settings; sized = A .sized; trains = rw now (A .trains); lined = rw now (A .lined) };
-        enters = next-enter;
-        acts = next-act;
-        leaves = next-off;
-      })
+  next-request : (r : Request) → Next r (decided true t r)
+  next-request =
+      any-request t Next next-refused
+      (λ r c asks.
+      any-call t Does
+      (record { refuses = λ c why r asks. next-refused r why; enters = next-enter; acts = next-act; leaves = next-off }) c r asks)
 
--- ---- every list of calls
+-- ---- every list of requests
 
-agrees-list : (σ : Settings) (cs : List Call) (xs : List Told) (t : Table) → Agrees σ xs t → Agrees σ (foldl toldBy xs (history t cs)) (after t cs)
-unfolding history after step
+agrees-list : (σ : Settings) (rs : List Request) (xs : List Told) (t : Table) → Agrees σ xs t → Agrees σ (foldl toldBy xs (history t rs)) (after t rs)
+unfolding history after
 agrees-list σ [] xs t A = A
-agrees-list σ (c ∷ cs) xs t A = agrees-list σ cs _ _ (next-call σ xs t A c)
+agrees-list σ (r ∷ rs) xs t A = agrees-list σ rs _ _ (next-request σ xs t A r)
 
 -- on the table that an accepted opening made
-pub agrees : (o : Opening) (t : Table) → openStep o ≡ outcome (Accepted Zeros) t → (cs : List Call)
-    → Agrees (settingsOf o) (told (history t cs)) (after t cs)
+pub agrees : (o : Opening) (t : Table) → openStep o ≡ outcome (Accepted Zeros) t → (rs : List Request)
+    → Agrees (settingsOf o) (told (history t rs)) (after t rs)
 unfolding told
-agrees o t opened cs =
+agrees o t opened rs =
     let σ = settingsOf o in
     rw (open-made o t opened .1)
-    (agrees-list σ cs [] (emptyTable σ) (record { settings = refl; sized = sized-empty σ; trains = refl; lined = tt }))
+    (agrees-list σ rs [] (emptyTable σ) (record { settings = refl; sized = sized-empty σ; trains = refl; lined = tt }))

@@ -13,7 +13,7 @@ use Rattle.train.specs.declared.Limit.{Limit}
 use Rattle.train.specs.Track.{limitBehind}
 use Rattle.train.proofs.Track.{InLimit, limit-first, in-behind}
 use Rattle.table.specs.declared.Table.{Table}
-use Rattle.calls.specs.declared.Call.{Call}
+use Rattle.calls.specs.declared.Request.{Request}
 use Rattle.calls.specs.declared.Answer.the-variants.{Accepted}
 use Rattle.calls.specs.declared.Values.the-variants.{Zeros}
 use Rattle.line.specs.Step.{outcome, openStep}
@@ -86,12 +86,12 @@ safe o ahead limit (x ∷ xs) e l =
     separate (some a) e = end-behind o limit x (l .0) a e
 
 -- for every accepted opening and every list of calls on the table that it made
-pub demand-3 : (o : Opening) (t : Table) → openStep o ≡ outcome (Accepted Zeros) t → (cs : List Call) → Demand3 o t cs
+pub demand-3 : (o : Opening) (t : Table) → openStep o ≡ outcome (Accepted Zeros) t → (rs : List Request) → Demand3 o t rs
 unfolding Claim
-demand-3 o t opened cs =
+demand-3 o t opened rs =
     let σ = settingsOf o in
-    let A = agrees o t opened cs in
-    let xs = told (history t cs) in
+    let A = agrees o t opened rs in
+    let xs = told (history t rs) in
     record {
       claim = safe o none (firstLimit σ) xs refl (subst (λ (ρ : Settings). Lined ρ (firstLimit ρ) xs) (A .settings) (A .lined));
       settings = A .settings;

@@ -14,8 +14,10 @@ use Rattle.calls.specs.declared.Opening.{Opening}
 use Rattle.calls.specs.declared.Asked.{Asked}
 use Rattle.calls.specs.declared.Act.{Act}
 use Rattle.calls.specs.declared.Act.the-variants.{Extend}
-use Rattle.calls.specs.declared.Call.{Call}
 use Rattle.calls.specs.declared.Call.the-variants.{Enter, Own, TakeOff}
+use Rattle.calls.specs.declared.Ask.{Ask}
+use Rattle.calls.specs.declared.Ask.the-variants.{Open, OnTable}
+use Rattle.calls.specs.declared.Request.{Request}
 use Rattle.calls.specs.declared.Refusal.{Refusal}
 use Rattle.calls.specs.declared.Answer.the-variants.{Accepted}
 use Rattle.calls.specs.declared.Values.the-variants.{Extended, Zeros}
@@ -31,53 +33,55 @@ use Rattle.table.specs.Table.{placeOf, trainAt, limitAt}
 use Rattle.table.proofs.Places.{found-below, still-found, still-there, put-same}
 use Rattle.table.proofs.Trains.{Sized}
 use Rattle.line.specs.Decide.{rulingAt}
-use Rattle.line.specs.Step.{outcome, openStep, step}
+use Rattle.line.specs.Step.{outcome, requested, openStep, step}
 use Rattle.line.proofs.Rules.{own-step}
-use Rattle.line.proofs.Stays.{Holds, Keeps, still-holds, sized-step, settings-step, own-accepted}
+use Rattle.line.proofs.Stays.{Holds, Keeps, still-holds, sized-step, sized-request, settings-step, settings-request, own-accepted}
 use Rattle.safety.specs.History.{Event, history, after, isAccepted}
 use Rattle.safety.proofs.Calls.{agrees}
 
 -- ---- what stays true over a list of calls
 
--- each call keeps it
+-- each request keeps it
 abbrev KeepsAll : (Train → Type 0) → ℕ → List Event → Type 0
 KeepsAll Q id [] = Unit {0}
-KeepsAll Q id (e ∷ es) = Keeps Q id (e .answer .number) (e .call) × KeepsAll Q id es
+KeepsAll Q id (e ∷ es) = Keeps Q id (e .answer .number) (e .request .asks) × KeepsAll Q id es
 
-lasts : (Q : Train → Type 0) (id : ℕ) (cs : List Call) (t : Table) → Sized t → Holds Q id t → KeepsAll Q id (history t cs) → Holds Q id (after t cs)
+lasts : (Q : Train → Type 0) (id : ℕ) (rs : List Request) (t : Table) → Sized t → Holds Q id t → KeepsAll Q id (history t rs) → Holds Q id (after t rs)
 unfolding history after
 lasts Q id [] t sized h keeps = h
-lasts Q id (c ∷ cs) t sized h keeps = lasts Q id cs (step t c .table) (sized-step t sized c) (still-holds Q id t sized h c (keeps .0)) (keeps .1)
+lasts Q id (r ∷ rs) t sized h keeps =
+    lasts Q id rs (requested true t r .table) (sized-request t sized r) (still-holds Q id t sized h r (keeps .0)) (keeps .1)
 
 -- ---- the present stay
 
 -- no event takes the train off
 abbrev pub Stays : ℕ → List Event → Type 0
 Stays id [] = Unit {0}
-Stays id (e ∷ es) = (e .call ≡ TakeOff id → isAccepted e ≡ false) × Stays id es
+Stays id (e ∷ es) = (e .request .asks ≡ OnTable (TakeOff id) → isAccepted e ≡ false) × Stays id es
 
 -- the number n has been accepted in this stay, at the latest as the last one
 abbrev Used : ℕ → Train → Type 0
 Used n x = (x .authority .start < n) × (n ≤ x .authority .number)
 
 module _ (id n : ℕ) where
-  not-off : (j m : ℕ) (c : Call) → c ≡ TakeOff j → (c ≡ TakeOff id → eqb m 0 ≡ false) → j ≡ id → m ≡ 0 → ⊥
-  not-off j m c e off mine zero = not-both (eq-eqb m 0 zero) (off (e ∙ ap (λ (k : ℕ). TakeOff k) mine))
+  not-off : (j m : ℕ) → (OnTable (TakeOff j) ≡ OnTable (TakeOff id) → eqb m 0 ≡ false) → j ≡ id → m ≡ 0 → ⊥
+  not-off j m off mine zero = not-both (eq-eqb m 0 zero) (off (ap (λ (k : ℕ). OnTable (TakeOff k)) mine))
 
-  used-kept : (c : Call) (m : ℕ) → (c ≡ TakeOff id → eqb m 0 ≡ false) → Keeps (Used n) id m c
-  used-kept (Enter e) m off = tt
-  used-kept (Own j a) m off = λ mine zero σ limit x passes used.
+  used-kept : (c : Ask) (m : ℕ) → (c ≡ OnTable (TakeOff id) → eqb m 0 ≡ false) → Keeps (Used n) id m c
+  used-kept (Open o) m off = tt
+  used-kept (OnTable (Enter e)) m off = tt
+  used-kept (OnTable (Own j a)) m off = λ mine zero σ limit x passes used.
       let start = act-leaves σ limit x a .start in
       let onward = number-onward σ limit x a passes in
       let above = used .0 in
       let within = used .1 in
       (omega arith, omega arith)
-  used-kept (TakeOff j) m off = not-off j m (TakeOff j) refl off
+  used-kept (OnTable (TakeOff j)) m off = not-off j m off
 
   used-all : (es : List Event) → Stays id es → KeepsAll (Used n) id es
   unfolding isAccepted
   used-all [] stays = tt
-  used-all (e ∷ es) stays = (used-kept (e .call) (e .answer .number) (stays .0), used-all es (stays .1))
+  used-all (e ∷ es) stays = (used-kept (e .request .asks) (e .answer .number) (stays .0), used-all es (stays .1))
 
 -- an extension with a number that was accepted in this stay leaves the whole table
 used-leaves : (t : Table) (id : ℕ) (q : Asked) → Holds (Used (q .number)) id t → step t (Own id (Extend q)) .table ≡ t
@@ -100,7 +104,7 @@ used-leaves t id q h = go (extension-used (t .settings) (limitAt t i) x q (h .so
 -- no event is an accepted extension of the train with another number
 abbrev pub NoOther : ℕ → ℕ → List Event → Type 0
 NoOther id n [] = Unit {0}
-NoOther id n (e ∷ es) = ((p : Asked) → e .call ≡ Own id (Extend p) → isAccepted e ≡ true → p .number ≡ n) × NoOther id n es
+NoOther id n (e ∷ es) = ((p : Asked) → e .request .asks ≡ OnTable (Own id (Extend p)) → isAccepted e ≡ true → p .number ≡ n) × NoOther id n es
 
 -- q is the last accepted one
 abbrev Last : Asked → Train → Type 0
@@ -118,27 +122,28 @@ module _ (id : ℕ) (q : Asked) where
           subst (Last q) (sym unmoved) last
       go (inr (number, asked)) = (rw (leaves .start) (last .0), number ∙ last .1, asked ∙ last .2)
 
-  last-kept : (c : Call) (m : ℕ) → (c ≡ TakeOff id → eqb m 0 ≡ false) → ((p : Asked) → c ≡ Own id (Extend p) → eqb m 0 ≡ true → p .number ≡ q .number)
-      → Keeps (Last q) id m c
-  last-kept (Enter e) m off same = tt
-  last-kept (Own j a) m off same = λ mine zero σ limit x passes last.
-      last-act x (decide σ limit x a .after) a (act-leaves σ limit x a) (λ p e. same p (ap (λ (k : ℕ). Own k a) mine ∙ ap (λ (b : Act). Own id b) e) (eq-eqb m 0 zero)) last
-  last-kept (TakeOff j) m off same = not-off id 0 j m (TakeOff j) refl off
+  last-kept : (c : Ask) (m : ℕ) → (c ≡ OnTable (TakeOff id) → eqb m 0 ≡ false)
+      → ((p : Asked) → c ≡ OnTable (Own id (Extend p)) → eqb m 0 ≡ true → p .number ≡ q .number) → Keeps (Last q) id m c
+  last-kept (Open o) m off same = tt
+  last-kept (OnTable (Enter e)) m off same = tt
+  last-kept (OnTable (Own j a)) m off same = λ mine zero σ limit x passes last.
+      last-act x (decide σ limit x a .after) a (act-leaves σ limit x a) (λ p e. same p (ap (λ (k : ℕ). OnTable (Own k a)) mine ∙ ap (λ (b : Act). OnTable (Own id b)) e) (eq-eqb m 0 zero)) last
+  last-kept (OnTable (TakeOff j)) m off same = not-off id 0 j m off
 
   last-all : (es : List Event) → Stays id es → NoOther id (q .number) es → KeepsAll (Last q) id es
   unfolding isAccepted
   last-all [] stays other = tt
-  last-all (e ∷ es) stays other = (last-kept (e .call) (e .answer .number) (stays .0) (other .0), last-all es (stays .1) (other .1))
+  last-all (e ∷ es) stays other = (last-kept (e .request .asks) (e .answer .number) (stays .0) (other .0), last-all es (stays .1) (other .1))
 
-settings-after : (cs : List Call) (t : Table) → after t cs .settings ≡ t .settings
+settings-after : (rs : List Request) (t : Table) → after t rs .settings ≡ t .settings
 unfolding after
 settings-after [] t = refl
-settings-after (c ∷ cs) t = settings-after cs (step t c .table) ∙ settings-step t c
+settings-after (r ∷ rs) t = settings-after rs (requested true t r .table) ∙ settings-request t r
 
 -- ---- over every list of calls
 
 -- on the line that an accepted opening made, after the calls `before`, the extension q of the train is called and accepted
-module _ (o : Opening) (t : Table) (opened : openStep o ≡ outcome (Accepted Zeros) t) (before : List Call) (id : ℕ) (q : Asked)
+module _ (o : Opening) (t : Table) (opened : openStep o ≡ outcome (Accepted Zeros) t) (before : List Request) (id : ℕ) (q : Asked)
     (accepted : numbersOf (step (after t before) (Own id (Extend q)) .answer) .number ≡ 0) where
   abbrev then : Table
   then = after t before
@@ -174,7 +179,7 @@ module _ (o : Opening) (t : Table) (opened : openStep o ≡ outcome (Accepted Ze
       record { place = h .place; found = h .found; so = (above, omega arith) }
 
   -- whatever calls were made since, in the same stay
-  module _ (since : List Call) (stays : Stays id (history granted since)) where
+  module _ (since : List Request) (stays : Stays id (history granted since)) where
     abbrev now : Table
     now = after granted since
 

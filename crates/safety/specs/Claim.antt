@@ -12,7 +12,7 @@ use Rattle.brake.specs.Consist.{figuresOf}
 use Rattle.motion.specs.Motion.{stands}
 use Rattle.motion.specs.Count.{cyclesToStand}
 use Rattle.calls.specs.declared.Opening.{Opening}
-use Rattle.calls.specs.declared.Call.{Call}
+use Rattle.calls.specs.declared.Request.{Request}
 use Rattle.train.specs.declared.Train.{Train}
 use Rattle.train.specs.Ranges.{settingsOf}
 use Rattle.train.specs.Record.{trainOf}
@@ -63,10 +63,10 @@ recordOf x =
     trainOf (x .entry .id) (x .entry .length) (x .figures) (record { head = x .now .head; speed = x .now .speed; level = x .now .level })
     (x .now .order) (x .now .authority) (record { held = isSome (x .now .counts .held); penalty = isSome (x .now .counts .braked) })
 
--- Demand 3 for one list of calls on the table t that the opening o made: the claim holds of the history, and the table after it is what
+-- Demand 3 for one list of requests on the table t that the opening o made: the claim holds of the history, and the table after it is what
 -- the history tells (proofs/Demand3: demand-3).
-pub record Demand3 (o : Opening) (t : Table) (cs : List Call) : Type 0 where
-  pub claim : Claim o (history t cs)
-  pub settings : after t cs .settings ≡ settingsOf o
-  pub count : after t cs .count ≡ length (told (history t cs))
-  pub trains : onLine (after t cs) ≡ map recordOf (told (history t cs))
+pub record Demand3 (o : Opening) (t : Table) (rs : List Request) : Type 0 where
+  pub claim : Claim o (history t rs)
+  pub settings : after t rs .settings ≡ settingsOf o
+  pub count : after t rs .count ≡ length (told (history t rs))
+  pub trains : onLine (after t rs) ≡ map recordOf (told (history t rs))

@@ -12,28 +12,30 @@ use Rattle.calls.specs.declared.Entry.{Entry}
 use Rattle.calls.specs.declared.Asked.{Asked}
 use Rattle.calls.specs.declared.Act.{Act}
 use Rattle.calls.specs.declared.Act.the-variants.{Report, Extend, CallBack, Hold, Lift}
-use Rattle.calls.specs.declared.Call.{Call}
 use Rattle.calls.specs.declared.Call.the-variants.{Enter, Own, TakeOff}
+use Rattle.calls.specs.declared.Ask.{Ask}
+use Rattle.calls.specs.declared.Ask.the-variants.{Open, OnTable}
+use Rattle.calls.specs.declared.Request.{Request}
 use Rattle.calls.specs.declared.Numbers.{Numbers}
 use Rattle.calls.specs.Answers.{numbersOf}
 use Rattle.train.specs.declared.Authority.{Authority}
 use Rattle.train.specs.Track.{stepsOf}
 use Rattle.table.specs.declared.Table.{Table}
-use Rattle.line.specs.Step.{step}
+use Rattle.line.specs.Step.{requested}
 
--- a call with its answer: the number and the three values
+-- a request with its answer: the number and the three values
 pub record Event : Type 0 where
-  pub call : Call
+  pub request : Request
   pub answer : Numbers
 
--- calls on a table, each on the table that the one before it left: the history, oldest first, and the table after them
-unfoldable pub history : Table → List Call → List Event
+-- requests on an opened line, each on the table that the one before it left: the history, oldest first, and the table after them
+unfoldable pub history : Table → List Request → List Event
 history t [] = []
-history t (c ∷ cs) = record { call = c; answer = numbersOf (step t c .answer) } ∷ history (step t c .table) cs
+history t (r ∷ rs) = record { request = r; answer = numbersOf (requested true t r .answer) } ∷ history (requested true t r .table) rs
 
-unfoldable pub after : Table → List Call → Table
+unfoldable pub after : Table → List Request → Table
 after t [] = t
-after t (c ∷ cs) = after (step t c .table) cs
+after t (r ∷ rs) = after (requested true t r .table) rs
 
 -- answer 0 is acceptance
 unfoldable pub isAccepted : Event → Bool
@@ -129,14 +131,15 @@ without id [] = []
 without id (x ∷ xs) = cond (eqb (x .entry .id) id) (without id xs) (x ∷ without id xs)
 
 -- after an accepted call with its answer
-unfoldable pub toldCall : List Told → Numbers → Call → List Told
-toldCall xs n (Enter e) = xs ++ (toldEntering e n ∷ [])
-toldCall xs n (Own id a) = map (toldOwn id n a) xs
-toldCall xs n (TakeOff id) = without id xs
+unfoldable pub toldCall : List Told → Numbers → Ask → List Told
+toldCall xs n (Open o) = []
+toldCall xs n (OnTable (Enter e)) = xs ++ (toldEntering e n ∷ [])
+toldCall xs n (OnTable (Own id a)) = map (toldOwn id n a) xs
+toldCall xs n (OnTable (TakeOff id)) = without id xs
 
 -- after an event; a refused call tells nothing
 unfoldable pub toldBy : List Told → Event → List Told
-toldBy xs e = cond (isAccepted e) (toldCall xs (e .answer) (e .call)) xs
+toldBy xs e = cond (isAccepted e) (toldCall xs (e .answer) (e .request .asks)) xs
 
 -- what a history tells; the train ahead is the one before in this list
 unfoldable pub told : List Event → List Told

@@ -9,7 +9,9 @@ use Rattle.calls.specs.declared.Act.{Act}
 use Rattle.calls.specs.declared.Act.the-variants.{Report, Extend, Hold, Lift}
 use Rattle.calls.specs.declared.Call.{Call}
 use Rattle.calls.specs.declared.Call.the-variants.{Enter, Own, TakeOff}
+use Rattle.calls.specs.declared.Ask.the-variants.{OnTable}
 use Rattle.calls.specs.Answers.{numbers}
+use Rattle.calls.specs.Requests.{request}
 use Rattle.line.specs.Step.{openStep}
 use Rattle.safety.specs.History.{Event, history, Told, told, rearOf}
 use Rattle.safety.specs.Claim.{countedReports}
@@ -84,7 +86,7 @@ wordsOf x =
     }
 
 abbrev pub wordsAfter : Opening → List Call → List Words
-wordsAfter o cs = map wordsOf (told (history (openStep o .table) cs))
+wordsAfter o cs = map wordsOf (told (history (openStep o .table) (map (λ (c : Call). request (OnTable c)) cs)))
 
 abbrev pub workedWords : List Words
 workedWords =
@@ -96,7 +98,7 @@ workedWords =
 
 -- an accepted call with its three values
 abbrev pub said : Call → ℕ → ℕ → ℕ → Event
-said c a b d = record { call = c; answer = numbers 0 a b d }
+said c a b d = record { request = request (OnTable c); answer = numbers 0 a b d }
 
 -- the session's train
 abbrev pub loadedEnters : Event

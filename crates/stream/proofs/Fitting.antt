@@ -21,7 +21,9 @@ use Rattle.calls.specs.declared.Opening.{Opening}
 use Rattle.calls.specs.declared.Entry.{Entry}
 use Rattle.calls.specs.declared.Act.{Act}
 use Rattle.calls.specs.declared.Call.{Call}
-use Rattle.calls.specs.declared.Request.the-variants.{Open, OnTable}
+use Rattle.calls.specs.declared.Ask.{Ask}
+use Rattle.calls.specs.declared.Ask.the-variants.{Open, OnTable}
+use Rattle.calls.specs.declared.Request.{Request}
 use Rattle.calls.specs.declared.RequestRead.{RequestRead}
 use Rattle.calls.specs.declared.RequestRead.the-variants.{Read, Unreadable}
 use Rattle.calls.specs.declared.Refusal.{Refusal}
@@ -33,6 +35,7 @@ use Rattle.calls.specs.declared.Values.the-variants.{Entered, Ordered, Extended
 use Rattle.calls.specs.declared.Numbers.{Numbers}
 use Rattle.calls.specs.Answers.{numbersOf}
 use Rattle.calls.specs.Checks.{firstOf}
+use Rattle.calls.specs.Requests.{request}
 use Rattle.calls.proofs.Answers.{refusal-range}
 use Rattle.calls.proofs.Checks.{passed}
 use Rattle.train.specs.Ranges.{settingsInRange}
@@ -42,9 +45,9 @@ use Rattle.train.proofs.Track.{InLimit, limit-tested}
 use Rattle.table.specs.declared.Table.{Table}
 use Rattle.table.specs.Table.{placeOf, limitAt}
 use Rattle.table.proofs.Places.{found-below}
-use Rattle.line.specs.Decide.{openDecision, enterChecks, rulingAt, decideOn}
+use Rattle.line.specs.Decide.{openDecision, enterChecks, rulingAt, decideOn, decided}
 use Rattle.line.specs.Step.{outcome, openStep}
-use Rattle.line.proofs.Steps.{any-call, open-taken, open-refused}
+use Rattle.line.proofs.Steps.{any-call, any-request, open-taken, open-refused}
 use Rattle.safety.specs.History as History
 use Rattle.safety.proofs.Acts.{Within, rulingOn, act-kept}
 use Rattle.safety.proofs.Bounds.{limit-on-line, tells, left-ranges}
@@ -53,7 +56,7 @@ use Rattle.wire.proofs.RoundTrip.{Fits, answer-read}
 use Rattle.stream.specs.declared.Session.{Session}
 use Rattle.stream.specs.Session.{session, closed, lineDecision, answered}
 use Rattle.stream.specs.Input.{after}
-use Rattle.stream.specs.Demand3.{callsIn, Opened}
+use Rattle.stream.specs.Demand3.{requestsIn, Opened}
 use Rattle.stream.proofs.Safe.{session-safe}
 
 -- ---- answers
@@ -82,13 +85,13 @@ extended-shown e false h = omega arith
 
 -- ---- a call on a table that calls left
 
-module _ (o : Opening) (t : Table) (opened : openStep o ≡ outcome (Accepted Zeros) t) (cs : List Call) where
+module _ (o : Opening) (t : Table) (opened : openStep o ≡ outcome (Accepted Zeros) t) (rs : List Request) where
   abbrev left : Table
-  left = History.after t cs
+  left = History.after t rs
 
   -- a place within the limit of the train at place i, or of one that enters there
   limit-fits : (i : ℕ) → i ≤ left .count → (place : ℕ) → InLimit (limitAt left i) place → place ≤ greatestLineEnd
-  limit-fits i h place limited = le-trans (limit-on-line o t opened cs i h place limited) (left-ranges o t opened cs .end)
+  limit-fits i h place limited = le-trans (limit-on-line o t opened rs i h place limited) (left-ranges o t opened rs .end)
 
   enter-shown : (e : Entry) (k : Figures) → figuresFor (left .settings) e ≡ Given k → firstOf (enterChecks left e) ≡ none
       → Shown (Accepted (Entered (k .full) (k .growth) (e .head)))
@@ -102,14 +105,14 @@ module _ (o : Opening) (t : Table) (opened : openStep o ≡ outcome (Accepted Ze
   -- what an act gives is bounded by its settings and the end after it
   within-shown : (end : ℕ) → end ≤ greatestLineEnd → (v : Values) → Within (left .settings) end v → Shown (Accepted v)
   within-shown end h (Entered full growth e) w = absurd w
-  within-shown end h (Ordered o r) w = ordered-shown o r (le-trans (w .0) (left-ranges _ t opened cs .traction)) (le-trans (w .1) h)
+  within-shown end h (Ordered o r) w = ordered-shown o r (le-trans (w .0) (left-ranges _ t opened rs .traction)) (le-trans (w .1) h)
   within-shown end h (Extended e repeat) w = extended-shown e repeat (le-trans w h)
   within-shown end h Zeros w = omega arith
 
   act-shown : (id i : ℕ) (a : Act) → placeOf left id ≡ some i → firstOf (rulingAt left a i .checks) ≡ none → Shown (Accepted (rulingAt left a i .gives))
   act-shown id i a q e =
       let below = found-below left id i q in
-      let p = tells o t opened cs i below in
+      let p = tells o t opened rs i below in
       let kept = act-kept (left .settings) (limitAt left i) (p .train) (p .steady) a (rw (p .here) at e) in
       let end = limit-fits i (omega arith) _ (rw (kept .told) at (kept .keeps .guarded .end-in-limit)) in
       rw (p .here) (within-shown _ end (rulingOn (left .settings) (limitAt left i) (p .train) (p .steady) a .gives) (kept .within))
@@ -121,8 +124,7 @@ module _ (o : Opening) (t : Table) (opened : openStep o ≡ outcome (Accepted Ze
 
   opened-shown : AllShown (session true left)
   unfolding lineDecision
-  opened-shown (Read (Open u)) = omega arith
-  opened-shown (Read (OnTable c)) = call-shown c
+  opened-shown (Read r) = any-request left (λ r d. Shown (d .answer)) (λ r why. refused-shown why) (λ r c asks. call-shown c) r
   opened-shown Unreadable = omega arith
 
 -- ---- a line
@@ -134,14 +136,17 @@ opening-shown o =
     (λ bad. rw (open-refused o bad) (refused-shown BadSetting))
 
 closed-shown : AllShown closed
-unfolding lineDecision decideOn
-closed-shown (Read (Open o)) = opening-shown o
-closed-shown (Read (OnTable c)) = omega arith
+unfolding lineDecision decided decideOn
+closed-shown (Read r) = go (r .asks)
+  where
+    go : (a : Ask) → Shown (lineDecision closed (Read (request a)) .answer)
+    go (Open o) = opening-shown o
+    go (OnTable c) = omega arith
 closed-shown Unreadable = omega arith
 
 all-shown : (ls : List (List ℕ)) → (after closed ls ≡ closed) ⊎ Opened ls → AllShown (after closed ls)
 all-shown ls (inl e) = subst AllShown (sym e) closed-shown
-all-shown ls (inr o) = subst AllShown (sym (o .now)) (opened-shown (o .given) (o .table) (o .accepted) (callsIn (o .since)))
+all-shown ls (inr o) = subst AllShown (sym (o .now)) (opened-shown (o .given) (o .table) (o .accepted) (requestsIn (o .since)))
 
 -- the answer to the line l after the lines ls
 abbrev pub answerAfter : List (List ℕ) → List ℕ → Numbers

@@ -11,19 +11,15 @@ use native.Mathlib.Numerals.{add-one}
 use borrow.Author.Tests.{eq-eqb, ne-eqb, eqb-true, eqb-false, leb-true, leb-false}
 use Rattle.logic.proofs.Tests.{by-test}
 use Rattle.wire.specs.Format.{callWidth, lineRead}
-use Rattle.calls.specs.declared.Request.{Request}
-use Rattle.calls.specs.declared.Request.the-variants.{Open, OnTable}
 use Rattle.calls.specs.declared.RequestRead.{RequestRead}
 use Rattle.calls.specs.declared.RequestRead.the-variants.{Read, Unreadable}
 use Rattle.calls.specs.Answers.{numbersOf}
-use Rattle.table.specs.declared.Table.{Table}
 use Rattle.table.specs.Table.{places, Fits}
 use Rattle.line.specs.declared.Decision.{Decision}
-use Rattle.line.specs.Decide.{decideOn}
-use Rattle.line.proofs.Steps.{decided-fits, open-fits}
+use Rattle.line.proofs.Steps.{decided-fits}
 use Rattle.stream.specs.declared.Session.{Session}
 use Rattle.stream.specs.declared.Stream.{Stream}
-use Rattle.stream.specs.Session.{outOfTurn, lineDecision, replied, answered}
+use Rattle.stream.specs.Session.{lineDecision, replied, answered}
 use Rattle.stream.specs.Input.{lines, rest, after, outputLine, answers, begun, keptWidth, kept, answersTo, Taken}
 use Rattle.stream.proofs.Bytes.{keep-first}
 
@@ -38,15 +34,10 @@ standing s g w bs = record { session = after s (lines g bs); begins = kept (rest
 
 -- ---- what is decided of a line
 
-request-fits : (t : Table) → length (t .trains) ≡ places → (r : Request) → Fits t (decideOn t r .change)
-unfolding decideOn
-request-fits t size (Open o) = open-fits t o
-request-fits t size (OnTable c) = decided-fits t size c
-
 -- the table has the place that the change needs
 pub line-fits : (s : Session) → length (s .table .trains) ≡ places → (r : RequestRead) (d : Decision) → d ≡ lineDecision s r → Fits (s .table) (d .change)
 unfolding lineDecision
-line-fits s size (Read r) d e = rw e (by-test (outOfTurn (s .opened) r) (λ q. rw q tt) (λ q. rw q (request-fits (s .table) size r)))
+line-fits s size (Read r) d e = rw e (decided-fits (s .opened) (s .table) size r)
 line-fits s size Unreadable d e = rw e tt
 
 -- ---- of a line that is too long the kept bytes are enough

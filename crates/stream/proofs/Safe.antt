@@ -6,16 +6,18 @@ use mathlib.Core.Logic.{_⊎_, inl, inr}
 use mathlib.Core.List.{List, [], _∷_, _++_, map}
 use Rattle.logic.proofs.Tests.{by-test}
 use Rattle.calls.specs.declared.Opening.{Opening}
-use Rattle.calls.specs.declared.Call.{Call}
-use Rattle.calls.specs.declared.Request.the-variants.{Open, OnTable}
+use Rattle.calls.specs.declared.Ask.{Ask}
+use Rattle.calls.specs.declared.Ask.the-variants.{Open, OnTable}
+use Rattle.calls.specs.declared.Request.{Request}
 use Rattle.calls.specs.declared.RequestRead.{RequestRead}
 use Rattle.calls.specs.declared.RequestRead.the-variants.{Read, Unreadable}
+use Rattle.calls.specs.Requests.{request}
 use Rattle.train.specs.Ranges.{settingsInRange, settingsOf}
 use Rattle.table.specs.declared.Table.{Table}
 use Rattle.table.specs.Table.{emptyTable}
 use Rattle.line.specs.declared.Decision.{Decision}
-use Rattle.line.specs.Decide.{openDecision, decideOn}
-use Rattle.line.specs.Step.{carriedOut, noTable, openStep, step}
+use Rattle.line.specs.Decide.{openDecision, decideOn, decided}
+use Rattle.line.specs.Step.{carriedOut, requested, noTable, openStep}
 use Rattle.line.proofs.Steps.{open-taken, open-refused}
 use Rattle.safety.specs.History.{Event, history}
 use Rattle.safety.specs.History as History
@@ -26,7 +28,7 @@ use Rattle.stream.specs.declared.Session.{Session}
 use Rattle.stream.specs.declared.Reply.{Reply}
 use Rattle.stream.specs.Session.{session, closed, lineDecision, replied, answered}
 use Rattle.stream.specs.Input.{after}
-use Rattle.stream.specs.Demand3.{callRead, callsIn, eventsIn, Opened}
+use Rattle.stream.specs.Demand3.{requestIn, requestsIn, eventsIn, Opened}
 
 -- the reply to what was read
 abbrev pub repliedTo : Session → RequestRead → Reply
@@ -34,20 +36,20 @@ repliedTo s r = replied s (lineDecision s r)
 
 -- ---- since the opening
 
--- the lines ls leave what their calls leave, and the calls get the answers of `step`
+-- the lines ls leave what their requests leave, and these get the answers of a history
 abbrev Follows : Table → List (List ℕ) → Type 0
-Follows t ls = (after (session true t) ls ≡ session true (History.after t (callsIn ls))) × (eventsIn (session true t) ls ≡ history t (callsIn ls))
+Follows t ls = (after (session true t) ls ≡ session true (History.after t (requestsIn ls))) × (eventsIn (session true t) ls ≡ history t (requestsIn ls))
 
 follows : (t : Table) (ls : List (List ℕ)) → Follows t ls
-unfolding after lineDecision callsIn eventsIn History.after history step
+unfolding after lineDecision requestsIn eventsIn History.after history
 follows t [] = (refl, refl)
 follows t (l ∷ ls) = go (lineRead l) (λ u. follows u ls)
   where
     go : (r : RequestRead) → ((u : Table) → Follows u ls)
-        → (after (repliedTo (session true t) r .session) ls ≡ session true (History.after t (callRead r ++ callsIn ls)))
-        × (map (λ (c : Call). record { call = c; answer = repliedTo (session true t) r .answer }) (callRead r) ++ eventsIn (repliedTo (session true t) r .session) ls ≡ history t (callRead r ++ callsIn ls))
-    go (Read (Open o)) next = next t
-    go (Read (OnTable c)) next = let f = next (step t c .table) in (f .0, ap (λ (es : List Event). event c (step t c .answer) ∷ es) (f .1))
+        → (after (repliedTo (session true t) r .session) ls ≡ session true (History.after t (requestIn r ++ requestsIn ls)))
+        × (map (λ (q : Request). record { request = q; answer = repliedTo (session true t) r .answer }) (requestIn r) ++ eventsIn (repliedTo (session true t) r .session) ls ≡ history t (requestIn r ++ requestsIn ls))
+    go (Read r) next =
+        let f = next (requested true t r .table) in (f .0, ap (λ (es : List Event). event r (requested true t r .answer) ∷ es) (f .1))
     go Unreadable next = next t
 
 -- ---- before it
@@ -80,10 +82,10 @@ module _ (l : List ℕ) (ls : List (List ℕ)) where
         demand = o .demand;
       })
 
-  module _ (o : Opening) (read : lineRead l ≡ Read (Open o)) where
+  module _ (o : Opening) (read : lineRead l ≡ Read (request (Open o))) where
     opening-leaves : (d : Decision) → openDecision o ≡ d → answered closed l .session ≡ replied closed d .session
-    unfolding lineDecision decideOn
-    opening-leaves d e = leaves (Read (Open o)) read ∙ ap (λ (v : Decision). replied closed v .session) e
+    unfolding lineDecision decided decideOn
+    opening-leaves d e = leaves (Read (request (Open o))) read ∙ ap (λ (v : Decision). replied closed v .session) e
 
     safe-opened : settingsInRange o ≡ true → Opened (l ∷ ls)
     unfolding after openStep
@@ -105,7 +107,7 @@ module _ (l : List ℕ) (ls : List (List ℕ)) where
           opens = opens;
           now = ap (λ (s : Session). after s ls) opens ∙ f .0;
           events = f .1;
-          demand = demand-3 o t accepted (callsIn ls);
+          demand = demand-3 o t accepted (requestsIn ls);
         }
 
     safe-opening : Safe ls → Safe (l ∷ ls)
@@ -115,9 +117,12 @@ module _ (l : List ℕ) (ls : List (List ℕ)) where
         (λ bad. safe-skip (opening-leaves _ (open-refused o bad)) next)
 
   safe-line : (r : RequestRead) → lineRead l ≡ r → Safe ls → Safe (l ∷ ls)
-  unfolding lineDecision
-  safe-line (Read (Open o)) e = safe-opening o e
-  safe-line (Read (OnTable c)) e = safe-skip (leaves (Read (OnTable c)) e)
+  unfolding lineDecision decided
+  safe-line (Read r) e = go (r .asks) refl
+    where
+      go : (a : Ask) → r .asks ≡ a → Safe ls → Safe (l ∷ ls)
+      go (Open o) q = safe-opening o (e ∙ ap (λ (a : Ask). Read (request a)) q)
+      go (OnTable c) q = safe-skip (leaves (Read r) e ∙ ap (λ (a : Ask). repliedTo closed (Read (request a)) .session) q)
   safe-line Unreadable e = safe-skip (leaves Unreadable e)
 
 -- Whatever lines a session is given: no opening among them was accepted, and the session is as at the start; or one was, what followed

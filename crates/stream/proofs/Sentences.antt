@@ -9,18 +9,20 @@ use mathlib.Core.Path.{_≡_, refl, ap, _∙_}
 use Rattle.logic.proofs.Tests.{by-test}
 use Rattle.calls.specs.declared.Opening.{Opening}
 use Rattle.calls.specs.declared.Call.{Call}
-use Rattle.calls.specs.declared.Request.the-variants.{Open, OnTable}
+use Rattle.calls.specs.declared.Ask.{Ask}
+use Rattle.calls.specs.declared.Ask.the-variants.{Open, OnTable}
 use Rattle.calls.specs.declared.RequestRead.{RequestRead}
 use Rattle.calls.specs.declared.RequestRead.the-variants.{Read, Unreadable}
 use Rattle.calls.specs.Answers.{numbers, numbersOf}
+use Rattle.calls.specs.Requests.{request}
 use Rattle.train.specs.Ranges.{settingsInRange, settingsOf}
 use Rattle.train.proofs.Sentences.{Offers}
 use Rattle.table.specs.declared.Table.{Table}
 use Rattle.table.specs.Table.{emptyTable}
-use Rattle.line.specs.Decide.{decideOn}
+use Rattle.line.specs.Decide.{decideOn, decided}
 use Rattle.line.specs.Step.{step}
 use Rattle.line.proofs.Steps.{open-taken, open-refused}
-use Rattle.line.proofs.Rules.{refusal-keeps, open-3, open-accepted}
+use Rattle.line.proofs.Rules.{refusal-keeps, call-2, open-2, open-3, open-accepted}
 use Rattle.wire.specs.Format.{lineRead, left, text, textOf, answerText}
 use Rattle.stream.specs.declared.Session.{Session}
 use Rattle.stream.specs.declared.Reply.{Reply}
@@ -43,30 +45,30 @@ module _ (l : List ℕ) (t : Table) where
   line-1 false e = answered-as (session false t) Unreadable e
 
   -- 2 "call before an accepted opening"
-  pub line-2 : (c : Call) → lineRead l ≡ Read (OnTable c) → answered (session false t) l ≡ refusal 2 (session false t)
+  pub line-2 : (c : Call) → lineRead l ≡ Read (request (OnTable c)) → answered (session false t) l ≡ refusal 2 (session false t)
   unfolding lineDecision
-  line-2 c e = answered-as (session false t) _ e
+  line-2 c e = answered-as (session false t) _ e ∙ rw (call-2 t c)
 
   -- 2 "or an opening after one"
-  pub line-2-again : (o : Opening) → lineRead l ≡ Read (Open o) → answered (session true t) l ≡ refusal 2 (session true t)
+  pub line-2-again : (o : Opening) → lineRead l ≡ Read (request (Open o)) → answered (session true t) l ≡ refusal 2 (session true t)
   unfolding lineDecision
-  line-2-again o e = answered-as (session true t) _ e
+  line-2-again o e = answered-as (session true t) _ e ∙ rw (open-2 t o)
 
   -- 3 "a setting out of range"
-  pub line-3 : (o : Opening) → lineRead l ≡ Read (Open o) → (Offers o → ⊥) → answered (session false t) l ≡ refusal 3 (session false t)
-  unfolding lineDecision decideOn
+  pub line-3 : (o : Opening) → lineRead l ≡ Read (request (Open o)) → (Offers o → ⊥) → answered (session false t) l ≡ refusal 3 (session false t)
+  unfolding lineDecision decided decideOn
   line-3 o e out = answered-as (session false t) _ e ∙ (rw (open-3 o out))
 
   -- an accepted opening: from then on the session is open, with a table of these settings and no train
-  pub line-opens : (o : Opening) → lineRead l ≡ Read (Open o) → Offers o
+  pub line-opens : (o : Opening) → lineRead l ≡ Read (request (Open o)) → Offers o
       → answered (session false t) l ≡ record { answer = numbers 0 0 0 0; session = session true (emptyTable (settingsOf o)) }
-  unfolding lineDecision decideOn
+  unfolding lineDecision decided decideOn
   line-opens o e offers = answered-as (session false t) _ e ∙ (rw (open-accepted o offers))
 
   -- after it a call is answered as on its table, and leaves the table that it leaves there
-  pub line-called : (c : Call) → lineRead l ≡ Read (OnTable c)
+  pub line-called : (c : Call) → lineRead l ≡ Read (request (OnTable c))
       → answered (session true t) l ≡ record { answer = numbersOf (step t c .answer); session = session true (step t c .table) }
-  unfolding lineDecision step
+  unfolding lineDecision decided step
   line-called c e = answered-as (session true t) _ e
 
   -- "A refusal gives its number and zeros; the whole table stays": whatever stands in the line, and in every state
@@ -74,20 +76,22 @@ module _ (l : List ℕ) (t : Table) where
   Leaves s r = (r .answer .number ≡ 0 → ⊥) → r ≡ refusal (r .answer .number) s
 
   pub refusal-leaves : (b : Bool) → Leaves (session b t) (answered (session b t) l)
-  unfolding lineDecision decideOn step
+  unfolding lineDecision decided decideOn
   refusal-leaves b = go b (lineRead l)
     where
-      go : (b : Bool) (r : RequestRead) → Leaves (session b t) (repliedTo (session b t) r)
-      go true Unreadable refuses = refl
-      go false Unreadable refuses = refl
-      go true (Read (Open o)) refuses = refl
-      go false (Read (OnTable c)) refuses = refl
-      go false (Read (Open o)) refuses =
+      before : (a : Ask) → Leaves (session false t) (repliedTo (session false t) (Read (request a)))
+      before (OnTable c) refuses = refl
+      before (Open o) refuses =
           by-test (settingsInRange o)
           (λ e. absurd (refuses (rw (open-taken o e))))
           (λ e. rw (open-refused o e))
-      go true (Read (OnTable c)) refuses =
-          let (zeros, stays) = refusal-keeps t c refuses in
+
+      go : (b : Bool) (r : RequestRead) → Leaves (session b t) (repliedTo (session b t) r)
+      go true Unreadable refuses = refl
+      go false Unreadable refuses = refl
+      go false (Read r) refuses = before (r .asks) refuses
+      go true (Read r) refuses =
+          let (zeros, stays) = refusal-keeps t r refuses in
           λ z. record { answer = zeros z; session = session true (stays z) }
 
 -- "a last line without its line feed is answer 1": whatever stands in it. Where nothing follows the last line feed, nothing is answered.

@@ -1,18 +1,16 @@
 -- Document 01, "What is turned down" and "The session program": one line of a session, its answer and the state after it.
-use mathlib.Core.Bool.{Bool, false, cond, not, _||_}
+use mathlib.Core.Bool.{Bool, false, _||_}
 use Prim.Native.Nat.{ℕ}
 use mathlib.Core.List.{List}
 use lib.Dec.{eqb}
-use Rattle.calls.specs.declared.Request.{Request}
-use Rattle.calls.specs.declared.Request.the-variants.{Open, OnTable}
 use Rattle.calls.specs.declared.RequestRead.{RequestRead}
 use Rattle.calls.specs.declared.RequestRead.the-variants.{Read, Unreadable}
-use Rattle.calls.specs.declared.Refusal.the-variants.{BadLine, OutOfTurn}
+use Rattle.calls.specs.declared.Refusal.the-variants.{BadLine}
 use Rattle.calls.specs.Answers.{numbersOf}
 use Rattle.table.specs.declared.Table.{Table}
 use Rattle.table.specs.Table.{changed}
 use Rattle.line.specs.declared.Decision.{Decision}
-use Rattle.line.specs.Decide.{refused, decideOn}
+use Rattle.line.specs.Decide.{refused, decided}
 use Rattle.line.specs.Step.{noTable}
 use Rattle.wire.specs.Format.{lineRead}
 use Rattle.stream.specs.declared.Session.{Session}
@@ -25,14 +23,9 @@ session o t = record { opened = o; table = t }
 abbrev pub closed : Session
 closed = session false noTable
 
--- 2 call before an accepted opening, or an opening after one
-abbrev pub outOfTurn : Bool → Request → Bool
-outOfTurn opened (Open o) = opened
-outOfTurn opened (OnTable c) = not opened
-
--- what is decided of a line: 1 line unreadable, 2, then the request's own answer
+-- what is decided of a line: 1 line unreadable, then what is decided of its request
 unfoldable pub lineDecision : Session → RequestRead → Decision
-lineDecision s (Read r) = cond (outOfTurn (s .opened) r) (refused OutOfTurn) (decideOn (s .table) r)
+lineDecision s (Read r) = decided (s .opened) (s .table) r
 lineDecision s Unreadable = refused BadLine
 
 -- Answer 0 is acceptance: from then on the session is open. A refusal changes nothing.

@@ -6,12 +6,11 @@ ghost use Prim.Native.Nat.{min, _+_, _*_, _≤_};
 ghost use lib.ListN.{length, take};
 ghost use lib.Seq.{paste};
 ghost use Rattle.wire.specs.Format.{lineRead};
-ghost use Rattle.stream.specs.Session.{session, closed, outOfTurn, lineDecision, answered};
+ghost use Rattle.stream.specs.Session.{session, closed, lineDecision, answered};
 ghost use Rattle.stream.specs.Input.{outputLine, begun, keptWidth, kept, outputWidth, Taken, FeedPromise, FinishPromise};
 use calls::Answer;
 use calls::Numbers;
 use calls::Refusal;
-use calls::Request;
 use calls::RequestRead;
 use line::Decision;
 use table::Change;
@@ -60,33 +59,13 @@ pub struct Finished {
 
 // ---- one line
 
-// Whether a request comes out of turn: a call before an accepted opening, or an opening after one.
-fn out_of_turn(opened: bool, r: Request) -> bool
-    ensures { λ o. ⌜ o ≡ outOfTurn opened r ⌝ }
-{
-    match r {
-        Request::Open(_) => opened,
-        Request::OnTable(_) => !opened,
-    }
-}
-
-// What is decided of a request, on a table that is not given back.
-fn decide_request(opened: bool, t: Table, r: Request) -> Decision
-    ensures { λ d. ⌜ d ≡ lineDecision (session opened t) (RequestRead.Read r) ⌝ }
-{
-    if out_of_turn(opened, r) {
-        return line::refuse(Refusal::OutOfTurn);
-    }
-    line::decide(t, r)
-}
-
 // What is decided of a line, given without its line feed.
 fn decide_line(opened: bool, t: Table, line: &[u8]) -> Decision
     ensures { λ d. ⌜ d ≡ lineDecision (session opened t) (lineRead (now (line .entry))) ⌝ }
 {
     let read = wire::read_line(line);
     match read {
-        RequestRead::Read(r) => decide_request(opened, t, r),
+        RequestRead::Read(r) => line::decide(opened, t, r),
         RequestRead::Unreadable => line::refuse(Refusal::BadLine),
     }
 }

@@ -16,7 +16,7 @@ use Rattle.train.specs.Track.{stepsOf, limitBehind}
 use Rattle.train.specs.Report.{allowed, moves, mustBrake, orderAfter, isPenalty, reported, computable, reportAllowed}
 use Rattle.acts.specs.Acts.{requestInRange, isRepeat, extended, isOld, callBackAllowed, mayLeave}
 use Rattle.table.specs.Table.{placeIn, placeOf, aheadOf}
-use Rattle.line.specs.Decide.{openDecision, enterDecision, actDecision, takeOffDecision, decideOn}
+use Rattle.line.specs.Decide.{openDecision, enterDecision, actDecision, takeOffDecision, decideOn, decided}
 use Rattle.wire.specs.Format.{digit, column, columns, numbersIn, lineRead, left, text, textOf, answerText}
 use Rattle.stream.specs.declared.Session.{Session}
 use Rattle.stream.specs.Session.{closed, lineDecision}
@@ -28,7 +28,7 @@ use Rattle.worked.specs.Worked.{Exchange, bytesOf, inputOf, outputOf, fi
 
 -- what has been written after lines from the state s on, and how things stand then
 unfoldable ran : Session → List Exchange → Standing
-unfolding ceilDiv between carOf fullBrake applicationTime applicationCycles sheetEntry entryFor brakeCycles figuresWith figuresBy figuresOf brakeTravel brakeSpeed nextLevel driveTravel driveSpeed stands brakedCycle firstCycles enoughCycles brakedRun totalTravel stoppingDistance stoppingPlace capFits greatest orderFor inBounds firstOf allZero readAs requestOf settingsInRange requestInRange stepsOf limitBehind allowed moves mustBrake orderAfter isPenalty reported computable reportAllowed isRepeat extended isOld callBackAllowed mayLeave placeIn placeOf aheadOf openDecision enterDecision actDecision takeOffDecision decideOn digit column columns numbersIn lineRead left text textOf answerText lineDecision lines rest after outputLine answers bytesOf inputOf outputOf
+unfolding ceilDiv between carOf fullBrake applicationTime applicationCycles sheetEntry entryFor brakeCycles figuresWith figuresBy figuresOf brakeTravel brakeSpeed nextLevel driveTravel driveSpeed stands brakedCycle firstCycles enoughCycles brakedRun totalTravel stoppingDistance stoppingPlace capFits greatest orderFor inBounds firstOf allZero readAs requestOf settingsInRange requestInRange stepsOf limitBehind allowed moves mustBrake orderAfter isPenalty reported computable reportAllowed isRepeat extended isOld callBackAllowed mayLeave placeIn placeOf aheadOf openDecision enterDecision actDecision takeOffDecision decideOn decided digit column columns numbersIn lineRead left text textOf answerText lineDecision lines rest after outputLine answers bytesOf inputOf outputOf
 ran s xs = standing s [] [] (inputOf xs)
 
 -- the lines xs, answered as they say from the state s on, leave the state t

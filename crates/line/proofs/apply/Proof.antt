@@ -3,7 +3,6 @@
 use mathlib.Core.Path.{_≡_}
 use lib.ListN.{length}
 use Rattle.table.proofs.Places.{long}
-use Rattle.line.specs.Step.{step}
 use Rattle.line.proofs.Steps.{decided-fits}
 use borrow.Author.Needs.{needs}
 use Rattle.line.proofs.apply.Statement.{statement}
@@ -13,11 +12,10 @@ carry-out-requires : tie.Need-carry-out-requires
 carry-out-requires c κs =
     let a = c .before .args in
     let size : length (a .t .trains) ≡ 32 = search (needs, long) in
-    rw (c .decide-call .ensures) (decided-fits (a .t) size (a .c))
+    rw (c .decide .ensures) (decided-fits (a .opened) (a .t) size (a .r))
 
 returns : tie.Need-returns
-unfolding step
-returns c = rw (c .carry-out .ensures, c .before .decide-call .ensures)
+returns c = rw (c .carry-out .ensures, c .before .decide .ensures)
 
 pub apply-spec : {M : Type 1} → statement M
 apply-spec = tie.close (tie.spec (λ c κs. search needs) carry-out-requires returns)

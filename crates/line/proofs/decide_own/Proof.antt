@@ -5,7 +5,7 @@ use Rattle.table.proofs.Places.{none-found, one-found}
 use Rattle.line.specs.Decide.{decideOn}
 use Rattle.line.proofs.Steps.{own-unknown, placed, own-found}
 use Rattle.calls.specs.declared.Call.the-variants.{Own}
-use Rattle.calls.specs.declared.Request.the-variants.{OnTable}
+use Rattle.calls.specs.declared.Ask.the-variants.{OnTable}
 use borrow.Author.Needs.{needs}
 use Rattle.line.proofs.decide_own.Statement.{statement}
 use Rattle.line.proofs.decide_own.Tie as tie

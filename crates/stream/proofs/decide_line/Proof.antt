@@ -7,9 +7,10 @@ use Rattle.stream.proofs.decide_line.Statement.{statement}
 use Rattle.stream.proofs.decide_line.Tie as tie
 
 returns : tie.Need-returns
+unfolding lineDecision
 returns c =
     let r = c .before .before in
-    c .decide-request .ensures ∙ ap (lineDecision _) (sym (r .read .given .1) ∙ r .before .before .read-line .ensures)
+    c .decide .ensures ∙ ap (lineDecision _) (sym (r .read .given .1) ∙ r .before .before .read-line .ensures)
 
 returns-2 : tie.Need-returns-2
 unfolding lineDecision
