@@ -4,6 +4,7 @@
 use crate::brake::{FEET_PER_ENTRY, LAST_ENTRY_FEET, LONGEST_FEET, STEPS_PER_FOOT};
 use crate::call::{Call, Entry};
 use crate::line::{Line, LAST_ID, LAST_NUMBER};
+use crate::rights::YARD;
 use crate::scene::Scene;
 use crate::train::Train;
 use crate::wire::WIDEST;
@@ -370,7 +371,7 @@ impl Scene {
     /// A call that names a train which is not there.
     pub fn name_a_stranger(&mut self) {
         let on_line: Vec<u64> = self.trains().iter().map(|train| train.id).collect();
-        let mut id = self.random.pick(&[0, LAST_ID, LAST_ID + 1, WIDEST]);
+        let mut id = self.random.pick(&[0, LAST_ID, LAST_ID + 1, YARD, WIDEST]);
         if self.random.once_in(2) {
             id = self.random.between(1, LAST_ID);
         }

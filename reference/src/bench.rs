@@ -7,7 +7,7 @@ use crate::convoy::Convoy;
 use crate::line::{GREATEST_CEILING, GREATEST_TRACTION, LONGEST_LINE};
 use crate::motion::Order;
 use crate::scene::{Profile, Scene};
-use crate::wire::{lines, CALL_BYTES};
+use crate::wire::{lines, MESSAGE_BYTES};
 
 /// A lead-in, which is not measured, and the lines after it.
 pub struct Measured {
@@ -34,7 +34,7 @@ pub fn realistic(trains: usize, count: usize) -> Measured {
         convoy.cycle(&mut scene);
     }
     let mut whole = scene.into_input();
-    whole.truncate(count * (CALL_BYTES + 1));
+    whole.truncate(count * (MESSAGE_BYTES + 1));
     Measured {
         lead: Vec::new(),
         whole,
@@ -63,6 +63,7 @@ fn scene() -> Scene {
         longest_feet: LONGEST_FEET,
         most_trains: 1,
         spoilt: 0,
+        wrong_callers: false,
     };
     Scene::new(1, profile)
 }

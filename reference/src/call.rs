@@ -1,5 +1,5 @@
-//! The calls of document 01 and their answers, as plain values. Here alone
-//! stand the codes and the answer numbers.
+//! The calls of document 01, their callers and their answers, as plain values.
+//! Here alone stand the codes and the answer numbers.
 
 /// An enum of numbered cases, with the list of them all.
 macro_rules! numbered {
@@ -59,6 +59,8 @@ numbered! {
     Place = 14,
     /// Not first, or not standing under brake.
     NotLeaving = 15,
+    /// A caller without the right to the call.
+    NoRight = 16,
 }
 
 /// What an opening gives.
@@ -105,6 +107,27 @@ impl Call {
             Call::TakeOff { .. } => Code::TakeOff,
         }
     }
+
+    /// The id that a call names. An opening names none.
+    pub fn id(&self) -> Option<u64> {
+        match *self {
+            Call::Open(_) => None,
+            Call::Enter(entry) => Some(entry.id),
+            Call::Report { id, .. }
+            | Call::Extend { id, .. }
+            | Call::CallBack { id, .. }
+            | Call::Hold { id }
+            | Call::Lift { id }
+            | Call::TakeOff { id } => Some(id),
+        }
+    }
+}
+
+/// A call and the number of its caller: what an input line says.
+#[derive(Clone, Copy, Debug, PartialEq, Eq)]
+pub struct Message {
+    pub caller: u64,
+    pub call: Call,
 }
 
 /// An answer number and its three values, zeros with a refusal.

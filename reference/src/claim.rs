@@ -1,11 +1,13 @@
-//! Demand 3's claim, and what document 01 says of the answers to reports,
-//! checked from calls and their answers alone. Nothing here reads the table of
-//! an implementation: what a train was ordered is what it was answered.
+//! Demand 3's claim, what document 01 says of the answers to reports, and who
+//! may call what, checked from calls and their answers alone. Nothing here reads
+//! the table of an implementation: what a train was ordered is what it was
+//! answered.
 
 use crate::brake::{Brake, STEPS_PER_FOOT};
-use crate::call::{Answer, Call, Entry, Settings};
+use crate::call::{Answer, Call, Entry, Message, Refusal, Settings};
+use crate::callers::TurnedAway;
 use crate::motion::{Motion, Order};
-use crate::wire::{lines, read_answer, read_call, whole_line};
+use crate::wire::{lines, read_answer, read_message, whole_line};
 
 /// The claim does not hold after this line, or its answer is wrong. Lines are
 /// counted from 1.
@@ -15,7 +17,8 @@ pub struct Broken {
     pub why: String,
 }
 
-/// How far a history tested the claims about held and braked trains.
+/// How far a history tested the claims about held and braked trains and about
+/// callers.
 #[derive(Clone, Copy, Debug, Default, PartialEq, Eq)]
 pub struct Reached {
     /// Holds that lasted for the counted reports.
@@ -23,6 +26,7 @@ pub struct Reached {
     /// Those of them that found the train moving.
     pub moving: u64,
     pub penalties: Penalties,
+    pub turned_away: TurnedAway,
 }
 
 /// Brakes of moving trains, each until the train stands.
@@ -190,16 +194,60 @@ impl History {
         let answer = whole_line(answer)
             .and_then(read_answer)
             .ok_or("the answer line is unreadable")?;
+        let Some(message) = whole_line(line).and_then(read_message) else {
+            return self.pass_over(line, answer);
+        };
+        self.judge_caller(message, answer)?;
         if !answer.is_accepted() {
             return Ok(());
         }
-        let call = whole_line(line)
-            .and_then(read_call)
-            .ok_or("an unreadable line is accepted")?;
         // The claim first: where it is broken, the answer is wrong as well.
-        let answered = self.accept(call, answer);
+        let answered = self.accept(message.call, answer);
         self.check()?;
         answered
+    }
+
+    /// An unreadable line has no caller.
+    fn pass_over(&mut self, line: &[u8], answer: Answer) -> Result<(), String> {
+        if answer.is_accepted() {
+            return Err("an unreadable line is accepted".to_string());
+        }
+        if answer.number == Refusal::NoRight.number() {
+            return Err("the caller of an unreadable line is turned away".to_string());
+        }
+        let text = whole_line(line).unwrap_or_default();
+        self.reached.turned_away.count_unreadable(text);
+        Ok(())
+    }
+
+    /// A caller with the right is never turned away. One without it always is,
+    /// except where the call is out of turn.
+    fn judge_caller(&mut self, message: Message, answer: Answer) -> Result<(), String> {
+        let Message { caller, call } = message;
+        let code = call.code();
+        if may_call(caller, call) {
+            if answer.number == Refusal::NoRight.number() {
+                return Err(format!("{caller} may {code:?}, but is turned away"));
+            }
+            return Ok(());
+        }
+        let opens = matches!(call, Call::Open(_));
+        let in_turn = opens != self.settings.is_some();
+        let refusal = if in_turn {
+            Refusal::NoRight
+        } else {
+            Refusal::OutOfTurn
+        };
+        if answer != Answer::refused(refusal) {
+            return Err(format!(
+                "{caller} may not {code:?}, but is answered {}",
+                answer.number
+            ));
+        }
+        let is_on_line = self.stays.iter().any(|stay| stay.id == caller);
+        let counts = &mut self.reached.turned_away;
+        counts.count(message, is_on_line, answer);
+        Ok(())
     }
 
     fn accept(&mut self, call: Call, answer: Answer) -> Result<(), String> {
@@ -335,6 +383,19 @@ impl History {
             ahead = Some(stay);
         }
         Ok(())
+    }
+}
+
+/// Whether a caller has the right to a call, in the numbers of document 02.
+pub fn may_call(caller: u64, call: Call) -> bool {
+    match call {
+        Call::Open(_) | Call::CallBack { .. } | Call::Hold { .. } | Call::Lift { .. } => {
+            caller == 0
+        }
+        Call::Enter(_) | Call::TakeOff { .. } => caller == 70_000,
+        Call::Report { id, .. } | Call::Extend { id, .. } => {
+            caller == id && (1..=65_535).contains(&id)
+        }
     }
 }
 

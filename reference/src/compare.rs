@@ -1,10 +1,11 @@
 //! Runs the program under test and compares it with the second implementation.
 
 use crate::call::{Answer, Call, Code, Refusal, Settings};
+use crate::callers::TurnedAway;
 use crate::claim::{self, Penalties, Reached};
 use crate::motion::Order;
 use crate::session;
-use crate::wire::{lines, read_answer, read_call, whole_line};
+use crate::wire::{lines, read_answer, read_message, whole_line};
 use std::io::{Read, Write};
 use std::path::{Path, PathBuf};
 use std::process::{Command, Stdio};
@@ -107,6 +108,7 @@ pub struct Counts {
     /// Lists in which such a hold found the train moving.
     pub lists_held_moving: u64,
     pub penalties: Penalties,
+    pub turned_away: TurnedAway,
 }
 
 impl Orders {
@@ -135,9 +137,11 @@ impl Counts {
         self.lists_held += u64::from(reached.holds > 0);
         self.lists_held_moving += u64::from(reached.moving > 0);
         self.penalties.add(reached.penalties);
+        self.turned_away.add(reached.turned_away);
         let mut settings = None;
         for (line, answer) in lines(input).zip(lines(expected)) {
-            let call = whole_line(line).and_then(read_call);
+            let message = whole_line(line).and_then(read_message);
+            let call = message.map(|message| message.call);
             let Some(answer) = whole_line(answer).and_then(read_answer) else {
                 continue;
             };

@@ -2,6 +2,7 @@
 
 use crate::brake::{LAST_ENTRY_FEET, LONGEST_FEET, STEPS_PER_FOOT};
 use crate::call::{Call, Entry, Settings};
+use crate::callers::usual;
 use crate::convoy::Convoy;
 use crate::line::{
     GREATEST_CEILING, GREATEST_SAFETY, GREATEST_TRACTION, LAST_NUMBER, LONGEST_LINE, MOST_TRAINS,
@@ -9,7 +10,7 @@ use crate::line::{
 use crate::random::Random;
 use crate::ranges::{ranges, wrong_settings};
 use crate::scene::{Profile, Scene};
-use crate::wire::put_call;
+use crate::wire::put_message;
 
 #[derive(Clone, Copy, Debug, PartialEq, Eq)]
 pub enum Kind {
@@ -74,6 +75,7 @@ impl Kind {
             longest_feet,
             most_trains,
             spoilt,
+            wrong_callers: true,
         }
     }
 
@@ -285,13 +287,16 @@ fn openings(scene: &mut Scene, settings: Settings) {
         let wrong = wrong_settings(settings, &mut scene.random);
         scene.open(wrong);
     }
+    scene.try_as_each(Call::Open(settings));
     open(scene, settings);
     for _ in 0..scene.random.below(30) {
         scene.step();
     }
-    scene.open(settings);
     let wrong = wrong_settings(settings, &mut scene.random);
-    scene.open(wrong);
+    for settings in [settings, wrong] {
+        scene.try_as_each(Call::Open(settings));
+        scene.open(settings);
+    }
 }
 
 /// Some lists end in a line without its line feed.
@@ -303,7 +308,7 @@ fn end_list(scene: &mut Scene, kind: Kind) {
         return;
     };
     let mut tail = Vec::new();
-    put_call(Call::Hold { id: train.id }, &mut tail);
+    put_message(usual(Call::Hold { id: train.id }), &mut tail);
     tail.pop();
     match scene.random.below(4) {
         0 => scene.send(&tail),

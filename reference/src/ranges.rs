@@ -3,12 +3,14 @@
 use crate::actions::calls_naming;
 use crate::brake::{FEET_PER_ENTRY, LAST_ENTRY_FEET, LONGEST_FEET, STEPS_PER_FOOT};
 use crate::call::{Call, Entry, Settings};
+use crate::callers::usual;
 use crate::line::{
     GREATEST_CEILING, GREATEST_SAFETY, GREATEST_TRACTION, LAST_ID, LAST_NUMBER, LONGEST_LINE,
 };
 use crate::random::Random;
+use crate::rights::YARD;
 use crate::scene::Scene;
-use crate::wire::{put_call, WIDEST};
+use crate::wire::{put_message, WIDEST};
 
 /// Both ends of the range of each setting.
 const ENDS: [[u64; 2]; 4] = [
@@ -138,7 +140,14 @@ fn naming_ranges(scene: &mut Scene) {
         scene.extend(&train, number, length);
     }
     scene.extend(&train, number, length);
-    for id in [0, LAST_ID, LAST_ID + 1, WIDEST] {
+    let nobody = [0, LAST_ID + 1, YARD, WIDEST];
+    let ids = [
+        scene.random.pick(&nobody),
+        scene.random.pick(&nobody),
+        scene.random.between(100, LAST_ID - 1),
+        LAST_ID,
+    ];
+    for id in ids {
         for call in calls_naming(id, 1) {
             scene.call(call);
         }
@@ -166,7 +175,7 @@ pub fn all_consists() -> Vec<u8> {
         ceiling: 1,
         traction: 1,
     };
-    put_call(Call::Open(settings), &mut input);
+    put_message(usual(Call::Open(settings)), &mut input);
     for (feet, class) in consists() {
         let entry = Entry {
             id: 1,
@@ -175,8 +184,8 @@ pub fn all_consists() -> Vec<u8> {
             class,
             start: 0,
         };
-        put_call(Call::Enter(entry), &mut input);
-        put_call(Call::TakeOff { id: 1 }, &mut input);
+        put_message(usual(Call::Enter(entry)), &mut input);
+        put_message(usual(Call::TakeOff { id: 1 }), &mut input);
     }
     input
 }

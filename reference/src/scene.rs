@@ -1,22 +1,25 @@
 //! A scene writes the input lines of a session. It runs its own table along
 //! with them, so that the next call can fit, or just not fit, what is there.
 
-use crate::call::{Call, Entry, Settings};
+use crate::call::{Call, Entry, Message, Settings};
+use crate::callers::{usual, wrong_caller, wrong_once_in, Wrong};
 use crate::line::Line;
 use crate::motion::Motion;
 use crate::random::Random;
 use crate::session::Session;
-use crate::spoil::spoil;
+use crate::spoil::{spoil, widen_caller};
 use crate::train::Train;
-use crate::wire::{put_call, ANSWER_BYTES};
+use crate::wire::{put_message, ANSWER_BYTES};
 
-/// What kind of trains a scene lets in, and how often a line is spoilt.
+/// What kind of trains a scene lets in, how often a line is spoilt, and whether
+/// callers without the right try calls too.
 #[derive(Clone, Copy, Debug)]
 pub struct Profile {
     pub longest_feet: u64,
     pub most_trains: usize,
     /// Once in so many lines; never with 0.
     pub spoilt: u64,
+    pub wrong_callers: bool,
 }
 
 pub struct Scene {
@@ -89,9 +92,58 @@ impl Scene {
         self.answers.clear();
     }
 
+    /// A call from its caller, now and then after another has tried it.
     pub fn call(&mut self, call: Call) {
+        let once_in = match self.line() {
+            None => 1,
+            Some(_) => wrong_once_in(call.code()),
+        };
+        if self.profile.wrong_callers && self.random.once_in(once_in) {
+            self.try_wrongly(call);
+        }
+        self.send_message(usual(call));
+    }
+
+    /// A caller without the right tries a call.
+    fn try_wrongly(&mut self, call: Call) {
+        if self.random.once_in(30) {
+            return self.try_too_wide(call);
+        }
+        let mut kind = self.random.pick(&Wrong::DRAWN);
+        while !self.try_as(kind, call) {
+            kind = self.random.pick(&Wrong::DRAWN);
+        }
+    }
+
+    /// Callers without the right try a call, one of each kind.
+    pub fn try_as_each(&mut self, call: Call) {
+        for kind in Wrong::ALL {
+            self.try_as(kind, call);
+        }
+    }
+
+    /// False where no caller of this kind lacks the right.
+    fn try_as(&mut self, kind: Wrong, call: Call) -> bool {
+        let on_line: Vec<u64> = self.trains().iter().map(|train| train.id).collect();
+        let caller = wrong_caller(kind, call, &on_line, &mut self.random);
+        if let Some(caller) = caller {
+            self.send_message(Message { caller, call });
+        }
+        caller.is_some()
+    }
+
+    /// A caller whose number is too wide for its columns.
+    fn try_too_wide(&mut self, call: Call) {
+        let message = usual(call);
         let mut text = Vec::with_capacity(128);
-        put_call(call, &mut text);
+        put_message(message, &mut text);
+        widen_caller(&mut text, message.caller, &mut self.random);
+        self.send(&text);
+    }
+
+    fn send_message(&mut self, message: Message) {
+        let mut text = Vec::with_capacity(128);
+        put_message(message, &mut text);
         if self.profile.spoilt > 0 && self.random.once_in(self.profile.spoilt) {
             spoil(&mut text, &mut self.random);
         }

@@ -2,7 +2,8 @@
 
 use crate::call::{Answer, Call, Refusal, Settings};
 use crate::line::Line;
-use crate::wire::{put_answer, read_call, CALL_BYTES};
+use crate::rights::has_right;
+use crate::wire::{put_answer, read_message, MESSAGE_BYTES};
 use std::io::BufRead;
 
 #[derive(Default)]
@@ -58,14 +59,30 @@ impl Session {
     }
 
     fn keep(&mut self, bytes: &[u8]) {
-        let room = CALL_BYTES + 1 - self.part.len();
+        let room = MESSAGE_BYTES + 1 - self.part.len();
         self.part.extend_from_slice(&bytes[..bytes.len().min(room)]);
     }
 
     fn answer(&mut self, text: &[u8]) -> Answer {
-        let Some(call) = read_call(text) else {
+        let Some(message) = read_message(text) else {
             return Answer::refused(Refusal::Unreadable);
         };
+        if !self.is_in_turn(message.call) {
+            return Answer::refused(Refusal::OutOfTurn);
+        }
+        if !has_right(message) {
+            return Answer::refused(Refusal::NoRight);
+        }
+        self.make(message.call)
+    }
+
+    /// The opening comes first, and once.
+    fn is_in_turn(&self, call: Call) -> bool {
+        let opens = matches!(call, Call::Open(_));
+        opens == self.line.is_none()
+    }
+
+    fn make(&mut self, call: Call) -> Answer {
         match (&mut self.line, call) {
             (None, Call::Open(settings)) => self.open(settings),
             (None, _) => Answer::refused(Refusal::OutOfTurn),

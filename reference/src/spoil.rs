@@ -1,7 +1,7 @@
 //! Spoilt input lines: what a bad typist or a broken cable sends.
 
 use crate::random::Random;
-use crate::wire::{CALL_FIELDS, CODE_BYTES, FIELD_BYTES};
+use crate::wire::{CODE_BYTES, FIELD_BYTES, MESSAGE_BYTES, MESSAGE_FIELDS};
 use std::ops::Range;
 
 /// Set at the right of the code's columns.
@@ -11,7 +11,7 @@ const ODD_CODES: [&[u8]; 8] = [b"0", b"9", b"01", b"10", b"1 ", b"", b"-1", b"99
 pub fn spoil(line: &mut Vec<u8>, random: &mut Random) {
     let column = any_column(0, random);
     let place = random.below(line.len() as u64) as usize;
-    match random.below(20) {
+    match random.below(22) {
         0 => line.truncate(place),
         1 => {
             line.truncate(place);
@@ -32,16 +32,18 @@ pub fn spoil(line: &mut Vec<u8>, random: &mut Random) {
         12 => line[column].fill(b'0'),
         13 => set_code(&mut line[..CODE_BYTES], random.pick(&ODD_CODES)),
         14 => move_left(&mut line[column]),
-        15 | 16 => raise_last_number(line, random),
+        15 | 16 => raise_number(line, random),
         17 => lengthen(line, random),
         18 => follow_with_more(line, random),
+        19 => drop_caller(line),
+        20 => repeat_caller(line),
         _ => noise(line, random),
     }
 }
 
 /// The columns of a number, of those from the one with index `first` on.
 fn any_column(first: usize, random: &mut Random) -> Range<usize> {
-    let field = first + random.below((CALL_FIELDS - first) as u64) as usize;
+    let field = first + random.below((MESSAGE_FIELDS - first) as u64) as usize;
     let start = CODE_BYTES + field * FIELD_BYTES;
     start..start + FIELD_BYTES
 }
@@ -64,10 +66,31 @@ fn move_left(column: &mut [u8]) {
     column.rotate_left(spaces);
 }
 
-/// The last number of a line is unused in most calls.
-fn raise_last_number(line: &mut [u8], random: &mut Random) {
+/// Most calls have unused numbers. The caller is a number too.
+fn raise_number(line: &mut [u8], random: &mut Random) {
     let column = any_column(1, random);
     line[column.end - 1] = b'0' + random.between(1, 9) as u8;
+}
+
+/// A line that ends before its caller.
+fn drop_caller(line: &mut Vec<u8>) {
+    line.truncate(MESSAGE_BYTES - FIELD_BYTES);
+    line.push(b'\n');
+}
+
+/// A line with one number more.
+fn repeat_caller(line: &mut Vec<u8>) {
+    line.extend_from_within(MESSAGE_BYTES - FIELD_BYTES..);
+    line.remove(MESSAGE_BYTES);
+}
+
+/// Writes out a number that is too wide for the caller's columns: 2^63, or one
+/// that is the caller in 64 bits.
+pub fn widen_caller(line: &mut Vec<u8>, caller: u64, random: &mut Random) {
+    let wide = random.pick(&[1 << 63, (1 << 64) + u128::from(caller)]);
+    line.truncate(MESSAGE_BYTES - FIELD_BYTES);
+    line.extend_from_slice(wide.to_string().as_bytes());
+    line.push(b'\n');
 }
 
 /// A line of thousands of bytes.

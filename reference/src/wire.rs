@@ -1,29 +1,30 @@
 //! Input lines and answer lines: numbers in columns, right-justified with
 //! spaces, without leading zeros.
 
-use crate::call::{Answer, Call, Code, Entry, Settings};
+use crate::call::{Answer, Call, Code, Entry, Message, Settings};
 
 /// Columns of a call's code or an answer's number.
 pub const CODE_BYTES: usize = 2;
 /// Columns of each number after it.
 pub const FIELD_BYTES: usize = 14;
-/// Numbers of a call.
-pub const CALL_FIELDS: usize = 5;
+/// Numbers of an input line: those of a call, then its caller.
+pub const MESSAGE_FIELDS: usize = CALL_FIELDS + 1;
 /// Bytes of an input line without its line feed.
-pub const CALL_BYTES: usize = CODE_BYTES + CALL_FIELDS * FIELD_BYTES;
+pub const MESSAGE_BYTES: usize = CODE_BYTES + MESSAGE_FIELDS * FIELD_BYTES;
 /// Bytes of an answer line without its line feed.
 pub const ANSWER_BYTES: usize = CODE_BYTES + ANSWER_FIELDS * FIELD_BYTES;
 /// The greatest number that fits into its columns.
 pub const WIDEST: u64 = 10_u64.pow(FIELD_BYTES as u32) - 1;
 
+const CALL_FIELDS: usize = 5;
 const ANSWER_FIELDS: usize = 3;
 
 /// None where the line is unreadable.
-pub fn read_call(line: &[u8]) -> Option<Call> {
-    let (code, fields) = read_columns::<CALL_FIELDS>(line)?;
+pub fn read_message(line: &[u8]) -> Option<Message> {
+    let (code, [fields @ .., caller]) = read_columns::<MESSAGE_FIELDS>(line)?;
     let (call, used) = call_of(code, fields)?;
     let unused_are_zero = fields[used..].iter().all(|&field| field == 0);
-    unused_are_zero.then_some(call)
+    unused_are_zero.then_some(Message { caller, call })
 }
 
 /// None where the line is not an answer of the session program.
@@ -40,9 +41,12 @@ pub fn put_answer(answer: Answer, out: &mut Vec<u8>) {
 }
 
 /// Adds an input line with its line feed.
-pub fn put_call(call: Call, out: &mut Vec<u8>) {
-    let mut line = [b' '; CALL_BYTES + 1];
-    put_columns(call.code().number(), fields_of(call), &mut line);
+pub fn put_message(message: Message, out: &mut Vec<u8>) {
+    let Message { caller, call } = message;
+    let [first, second, third, fourth, fifth] = fields_of(call);
+    let fields = [first, second, third, fourth, fifth, caller];
+    let mut line = [b' '; MESSAGE_BYTES + 1];
+    put_columns(call.code().number(), fields, &mut line);
     out.extend_from_slice(&line);
 }
 

@@ -1,12 +1,13 @@
-//! The claim checker refuses made-up histories that break demand 3, or in which
-//! a report is answered as document 01 does not say, and takes those that keep
-//! both.
+//! The claim checker refuses made-up histories that break demand 3, in which a
+//! report is answered as document 01 does not say, or a caller as document 02
+//! does not. It takes those that keep all three.
 
 use reference::brake::{Brake, STEPS_PER_FOOT};
-use reference::call::{Answer, Call, Entry, Refusal, Settings};
+use reference::call::{Answer, Call, Code, Entry, Message, Refusal, Settings};
+use reference::callers::{usual, Wrong};
 use reference::claim::{check, Broken, Penalties, Reached};
 use reference::motion::{Motion, Order};
-use reference::wire::{put_answer, put_call};
+use reference::wire::{put_answer, put_message, FIELD_BYTES};
 
 const LINE_END: u64 = 1_000_000_000;
 const SAFETY: u64 = 1000;
@@ -29,12 +30,7 @@ struct Made {
 impl Made {
     fn line() -> Made {
         let mut made = Made::default();
-        made.accepted(Call::Open(Settings {
-            line_end: LINE_END,
-            safety: SAFETY,
-            ceiling: CEILING,
-            traction: TRACTION,
-        }));
+        made.accepted(opening());
         made
     }
 
@@ -47,7 +43,11 @@ impl Made {
     }
 
     fn answered(&mut self, call: Call, answer: Answer) {
-        put_call(call, &mut self.input);
+        self.told(usual(call), answer);
+    }
+
+    fn told(&mut self, message: Message, answer: Answer) {
+        put_message(message, &mut self.input);
         put_answer(answer, &mut self.output);
     }
 
@@ -122,6 +122,15 @@ impl Made {
     fn assert_kept(&self) {
         assert_eq!(self.check().err(), None);
     }
+}
+
+fn opening() -> Call {
+    Call::Open(Settings {
+        line_end: LINE_END,
+        safety: SAFETY,
+        ceiling: CEILING,
+        traction: TRACTION,
+    })
 }
 
 fn brake() -> Brake {
@@ -552,4 +561,183 @@ fn unreadable_answers_are_refused() {
     let mut made = Made::line();
     made.output.insert(0, b' ');
     made.assert_broken("unreadable");
+}
+
+/// Each call, with what a line with train 1 on it might answer.
+fn each_call() -> [(Call, Answer); 7] {
+    let Brake { full, growth } = brake();
+    let id = 1;
+    let entry = Entry {
+        id: 2,
+        head: STEPS_PER_FOOT,
+        feet: 1,
+        class: 1,
+        start: 0,
+    };
+    let (head, speed) = (2 * HEAD, 0);
+    let (number, length) = (1, 1000);
+    let place = 2 * HEAD;
+    [
+        (
+            Call::Enter(entry),
+            Answer::accepted([full, growth, STEPS_PER_FOOT]),
+        ),
+        (
+            Call::Report { id, head, speed },
+            Answer::accepted([2, 0, head]),
+        ),
+        (
+            Call::Extend { id, number, length },
+            Answer::accepted([head + length, 0, 0]),
+        ),
+        (Call::CallBack { id, place }, Answer::DONE),
+        (Call::Hold { id }, Answer::DONE),
+        (Call::Lift { id }, Answer::DONE),
+        (Call::TakeOff { id }, Answer::DONE),
+    ]
+}
+
+/// A line with train 1, and then this call.
+fn called(message: Message, answer: Answer) -> Made {
+    let mut made = Made::line();
+    made.enter(1, 2 * HEAD);
+    made.told(message, answer);
+    made
+}
+
+const TURNED_AWAY: Answer = Answer::refused(Refusal::NoRight);
+const OUT_OF_TURN: Answer = Answer::refused(Refusal::OutOfTurn);
+/// The dispatcher, three trains, the yard, and numbers that nobody has.
+const CALLERS: [u64; 9] = [
+    0,
+    1,
+    2,
+    65_535,
+    65_536,
+    69_999,
+    70_000,
+    70_001,
+    u32::MAX as u64,
+];
+
+#[test]
+fn caller_without_the_right_is_turned_away() {
+    for (call, accepted) in each_call() {
+        let message = usual(call);
+        called(message, accepted).assert_kept();
+        for caller in CALLERS {
+            if caller == message.caller {
+                continue;
+            }
+            let wrong = Message { caller, call };
+            called(wrong, TURNED_AWAY).assert_kept();
+            called(wrong, accepted).assert_broken("may not");
+            called(wrong, OUT_OF_TURN).assert_broken("may not");
+            let no_such_train = Answer::refused(Refusal::NoSuchTrain);
+            called(wrong, no_such_train).assert_broken("may not");
+        }
+    }
+}
+
+#[test]
+fn caller_with_the_right_is_not_turned_away() {
+    for (call, _) in each_call() {
+        called(usual(call), TURNED_AWAY).assert_broken("but is turned away");
+    }
+    let mut made = Made::default();
+    made.answered(opening(), TURNED_AWAY);
+    made.assert_broken("but is turned away");
+}
+
+/// Nor has a number that no train has the right to report for itself.
+#[test]
+fn report_of_no_train_is_turned_away() {
+    for id in [0, 65_536, 70_000] {
+        let (head, speed) = (HEAD, 0);
+        let message = usual(Call::Report { id, head, speed });
+        called(message, TURNED_AWAY).assert_kept();
+        let no_such_train = Answer::refused(Refusal::NoSuchTrain);
+        called(message, no_such_train).assert_broken("may not");
+    }
+}
+
+#[test]
+fn caller_without_the_right_may_be_out_of_turn() {
+    for caller in [1, 65_536, 70_000] {
+        let call = opening();
+        let wrong = Message { caller, call };
+        called(wrong, OUT_OF_TURN).assert_kept();
+        called(wrong, TURNED_AWAY).assert_broken("may not");
+        let first = |answer| {
+            let mut made = Made::default();
+            made.told(wrong, answer);
+            made
+        };
+        first(TURNED_AWAY).assert_kept();
+        first(OUT_OF_TURN).assert_broken("may not");
+        first(Answer::refused(Refusal::Setting)).assert_broken("may not");
+        first(Answer::DONE).assert_broken("may not");
+        let call = Call::Hold { id: 1 };
+        let mut made = Made::default();
+        made.told(Message { caller, call }, OUT_OF_TURN);
+        made.assert_kept();
+        made.told(Message { caller, call }, TURNED_AWAY);
+        made.assert_broken("may not");
+    }
+}
+
+#[test]
+fn unreadable_line_has_no_caller_to_turn_away() {
+    let mut made = Made::line();
+    made.input.push(b'\n');
+    put_answer(TURNED_AWAY, &mut made.output);
+    made.assert_broken("the caller of an unreadable line");
+}
+
+#[test]
+fn callers_turned_away_are_told_by_what_they_are() {
+    let (id, head, speed) = (1, HEAD, 0);
+    let hold = Call::Hold { id };
+    let report = Call::Report { id, head, speed };
+    let of_nobody = Call::Report {
+        id: 70_000,
+        head,
+        speed,
+    };
+    for (caller, call, kind) in [
+        (0, report, Wrong::Dispatcher),
+        (70_000, hold, Wrong::Yard),
+        (1, hold, Wrong::Named),
+        (2, report, Wrong::Other),
+        (3, hold, Wrong::Absent),
+        (70_000, of_nobody, Wrong::Itself),
+        (70_001, hold, Wrong::Nobody),
+    ] {
+        let mut made = Made::two_trains(2 * HEAD, HEAD);
+        made.told(Message { caller, call }, TURNED_AWAY);
+        let counts = made.check().expect("the claim holds").turned_away;
+        for other in Wrong::ALL {
+            for &code in Code::ALL {
+                let is_it = (other, code) == (kind, call.code());
+                assert_eq!(counts.by_kind(other, code), u64::from(is_it), "{caller}");
+            }
+        }
+        for (number, count) in counts.by_number() {
+            assert_eq!(count, u64::from(number == caller), "{caller}");
+        }
+    }
+}
+
+#[test]
+fn caller_too_wide_for_its_columns_is_told() {
+    for (caller, wide) in [("9223372036854775808", 1), ("              ", 0)] {
+        let mut made = Made::line();
+        put_message(usual(Call::Hold { id: 1 }), &mut made.input);
+        made.input.truncate(made.input.len() - FIELD_BYTES - 1);
+        made.input.extend_from_slice(caller.as_bytes());
+        made.input.push(b'\n');
+        put_answer(Answer::refused(Refusal::Unreadable), &mut made.output);
+        let counts = made.check().expect("the claim holds").turned_away;
+        assert_eq!(counts.too_wide, wide, "{caller}");
+    }
 }

@@ -206,6 +206,8 @@ fn right_version_does_not_differ_from_itself() {
     ];
     assert!(each.iter().all(|&count| count > 100), "{seen:?}");
     assert!(seen.together > 2, "{seen:?}");
+    let rare = counts.turned_away.rare(50);
+    assert!(rare.is_empty(), "callers without the right: {rare:?}");
 }
 
 /// So it is the edit that makes a wrong version differ.

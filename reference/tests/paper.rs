@@ -10,14 +10,14 @@ use reference::line::Line;
 use reference::motion::{greatest_cap, stop_travel, Bounds, Motion};
 use reference::ranges::consists;
 use reference::session;
-use reference::wire::read_call;
+use reference::wire::read_message;
 
 const CALLS: &str = include_str!("../../docs/session/calls.txt");
 const ANSWERS: &str = include_str!("../../docs/session/answers.txt");
 
 fn calls() -> Vec<Call> {
-    let call = |line: &str| read_call(line.as_bytes()).expect("a call");
-    CALLS.lines().map(call).collect()
+    let message = |line: &str| read_message(line.as_bytes()).expect("a call");
+    CALLS.lines().map(|line| message(line).call).collect()
 }
 
 fn settings() -> Settings {

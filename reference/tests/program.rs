@@ -7,7 +7,7 @@ use reference::compare::{must_exist, program, run};
 use reference::generate::{list, Kind};
 use reference::random::Random;
 use reference::session;
-use reference::wire::{lines, ANSWER_BYTES, CALL_BYTES};
+use reference::wire::{lines, ANSWER_BYTES, FIELD_BYTES, MESSAGE_BYTES};
 use std::fs;
 use std::io::{BufRead, BufReader, ErrorKind, Read, Write};
 use std::os::unix::fs::symlink;
@@ -20,8 +20,12 @@ use std::time::{Duration, Instant};
 /// The worked session: an opening, then a train that enters.
 const CALLS: &[u8] = include_bytes!("../../docs/session/calls.txt");
 const ANSWERS: &[u8] = include_bytes!("../../docs/session/answers.txt");
-const OPENING: &[u8] = CALLS.split_at(CALL_BYTES + 1).0;
-const ENTERING: &[u8] = CALLS.split_at(CALL_BYTES + 1).1.split_at(CALL_BYTES + 1).0;
+const OPENING: &[u8] = CALLS.split_at(MESSAGE_BYTES + 1).0;
+const ENTERING: &[u8] = CALLS
+    .split_at(MESSAGE_BYTES + 1)
+    .1
+    .split_at(MESSAGE_BYTES + 1)
+    .0;
 const DONE: &str = text(ANSWERS.split_at(ANSWER_BYTES + 1).0);
 const ENTERED: &str = text(
     ANSWERS
@@ -214,8 +218,11 @@ fn altered(line: &[u8], place: usize, bytes: &[u8]) -> Vec<u8> {
 
 #[test]
 fn unreadable_lines_are_1() {
-    let hold = b" 6             7             0             0             0             0\n";
+    let hold =
+        b" 6             7             0             0             0             0             0\n";
     let without_feed = &hold[..hold.len() - 1];
+    let without_caller = &hold[..MESSAGE_BYTES - FIELD_BYTES];
+    let (unused, caller) = (without_caller.len() - 1, MESSAGE_BYTES - 1);
     let unreadable = [
         b"\n".to_vec(),
         hold[1..].to_vec(),
@@ -223,7 +230,11 @@ fn unreadable_lines_are_1() {
         [without_feed, b" \n"].concat(),
         [without_feed, b"\r\n"].concat(),
         [without_feed, without_feed, b"\n"].concat(),
-        altered(hold, 71, b"\r"),
+        [without_caller, b"\n"].concat(),
+        [without_caller, b" \n"].concat(),
+        [without_caller, b"9223372036854775808\n"].concat(),
+        [without_caller, b"18446744073709551616\n"].concat(),
+        altered(hold, caller, b"\r"),
         altered(hold, 0, b"06"),
         altered(hold, 0, b"6 "),
         altered(hold, 0, b"  "),
@@ -240,10 +251,15 @@ fn unreadable_lines_are_1() {
         altered(hold, 15, b" "),
         altered(hold, 28, b"00"),
         altered(hold, 29, b"1"),
-        altered(hold, 71, b"1"),
-        altered(hold, 71, b" "),
-        altered(hold, 71, b"x"),
-        altered(hold, 71, b"\xb2"),
+        altered(hold, unused, b"1"),
+        altered(hold, unused, b" "),
+        altered(hold, unused, b"x"),
+        altered(hold, unused, b"\xb2"),
+        altered(hold, caller - 1, b"00"),
+        altered(hold, caller - 1, b"-0"),
+        altered(hold, caller - 1, b"0 "),
+        altered(hold, caller, b" "),
+        altered(hold, caller, b"x"),
     ];
     for line in unreadable {
         let input = [OPENING, ENTERING, &line, hold].concat();
@@ -267,6 +283,34 @@ fn line_is_opened_once_and_first() {
         ENTERED,
     ];
     assert_eq!(output_of(&input), expected.concat());
+}
+
+/// Out of turn comes before the right, and the right before a setting.
+#[test]
+fn line_is_opened_by_the_dispatcher() {
+    let by_the_yard = |line: &[u8]| altered(line, MESSAGE_BYTES - FIELD_BYTES, b"         70000");
+    let by_nobody = |line: &[u8]| altered(line, MESSAGE_BYTES - FIELD_BYTES, b"99999999999999");
+    let too_long = altered(OPENING, 3, b"2000000000001");
+    let input = [
+        by_nobody(ENTERING),
+        by_the_yard(OPENING),
+        by_nobody(&too_long),
+        OPENING.to_vec(),
+        by_the_yard(&too_long),
+        by_nobody(ENTERING),
+        ENTERING.to_vec(),
+    ];
+    let refused = |number| format!("{number:>2}{:>14}{:>14}{:>14}\n", 0, 0, 0);
+    let expected = [
+        &refused(2),
+        &refused(16),
+        &refused(16),
+        DONE,
+        &refused(2),
+        &refused(16),
+        ENTERED,
+    ];
+    assert_eq!(output_of(&input.concat()), expected.concat());
 }
 
 #[test]
@@ -552,7 +596,7 @@ fn stopped_line_goes_on_where_it_stopped() {
         let count = random.below(20) as usize;
         kept.send(&mut running, &calls[next..next + count]);
         next += count;
-        let part = random.between(1, CALL_BYTES as u64) as usize;
+        let part = random.between(1, MESSAGE_BYTES as u64) as usize;
         kept.stop(running, how, calls[next], part);
         next += usize::from(how == Stop::KilledBeforeAnAnswer);
     }

@@ -1,29 +1,43 @@
--- Laws of reading a row of numbers: the unused ones, and the codes, one law for each and no other.
+-- Laws of reading a row of numbers: the unused ones, the codes, one law for each and no other, and the caller.
 -- Assumes nothing.
 use Prim.Native.Nat.{ℕ, _+_, _≤_, _<_}
 use mathlib.Core.Bool.{true, _&&_}
 use mathlib.Core.List.{List}
 use mathlib.Core.Path.{_≡_, refl}
+use mathlib.Core.Logic.{by-cases}
+use native.Mathlib.Decide.{ℕ-discrete}
 use native.Mathlib.Numerals.{add-one}
+use native.Mathlib.Omega.{arith}
 use lib.Dec.{eqb}
-use lib.ListN.{length, drop-of-length-le}
-use lib.Seq.{drop-cons}
+use lib.ListN.{length, take, drop-of-length-le}
+use lib.Seq.{drop-cons, length-take-le, getD-take}
 use borrow.Author.Tests.{ne-eqb}
+use Rattle.logic.proofs.Tests.{by-test}
 use Rattle.calls.specs.declared.Act.the-variants.{Report, Extend, CallBack, Hold, Lift}
 use Rattle.calls.specs.declared.Call.the-variants.{Enter, Own, TakeOff}
+use Rattle.calls.specs.declared.Ask.{Ask}
 use Rattle.calls.specs.declared.Ask.the-variants.{Open, OnTable}
-use Rattle.calls.specs.declared.RequestRead.the-variants.{Unreadable}
-use Rattle.calls.specs.Requests.{at, allZero, zeroFrom, readAs, openingIn, entryIn, readingIn, askedIn, requestOf}
+use Rattle.calls.specs.declared.RequestRead.{RequestRead}
+use Rattle.calls.specs.declared.RequestRead.the-variants.{Read, Unreadable}
+use Rattle.calls.specs.Requests.{at, allZero, zeroFrom, callerPlace, readAs, openingIn, entryIn, readingIn, askedIn, requestOf}
 
 -- ---- unused numbers
 
-pub zero-next : (row : List ℕ) (i : ℕ) → i < length row → zeroFrom i row ≡ eqb (at row i) 0 && zeroFrom (i + 1) row
-unfolding allZero
-zero-next row i h = rw (drop-cons row i 0 h, add-one i) refl
+module _ (row : List ℕ) (size : length row ≡ 7) where
+  -- the numbers of the call
+  abbrev own : List ℕ
+  own = take callerPlace row
 
-pub zero-end : (row : List ℕ) (i : ℕ) → length row ≤ i → zeroFrom i row ≡ true
-unfolding allZero
-zero-end row i h = rw (drop-of-length-le row h) refl
+  six : length own ≡ 6
+  six = length-take-le callerPlace row (omega arith)
+
+  pub zero-next : (i : ℕ) → i < 6 → zeroFrom i own ≡ eqb (at row i) 0 && zeroFrom (i + 1) own
+  unfolding allZero
+  zero-next i h = rw (drop-cons own i 0 (rw six h), getD-take callerPlace row i 0 h, add-one i) refl
+
+  pub zero-end : (i : ℕ) → 6 ≤ i → zeroFrom i own ≡ true
+  unfolding allZero
+  zero-end i h = let past : length own ≤ i = rw six h in rw (drop-of-length-le own past) refl
 
 -- ---- codes
 
@@ -75,3 +89,32 @@ module _ (row : List ℕ) where
         ne-eqb (at row 0) 8 eight,
         requestOf,
       )
+
+-- ---- the caller
+
+-- what is read is called by n; what is unreadable, by nobody
+abbrev pub Calls : ℕ → RequestRead → Type 0
+Calls n (Read r) = r .caller ≡ n
+Calls n Unreadable = Unit {0}
+
+module _ (row : List ℕ) where
+  read-caller : (n : ℕ) (a : Ask) → Calls (at row 6) (readAs n row a)
+  unfolding readAs
+  read-caller n a = by-test (zeroFrom n (take callerPlace row)) (λ e. rw e refl) (λ e. rw e tt)
+
+  -- "the caller as a sixth number": whatever the call, and whatever the number
+  pub sixth-calls : Calls (at row 6) (requestOf row)
+  sixth-calls =
+      code 1 _ (code-open row) (read-caller 5 _) (λ one.
+      code 2 _ (code-enter row) (read-caller 6 _) (λ two.
+      code 3 _ (code-report row) (read-caller 4 _) (λ three.
+      code 4 _ (code-extend row) (read-caller 4 _) (λ four.
+      code 5 _ (code-call-back row) (read-caller 3 _) (λ five.
+      code 6 _ (code-hold row) (read-caller 2 _) (λ six.
+      code 7 _ (code-lift row) (read-caller 2 _) (λ seven.
+      code 8 _ (code-take-off row) (read-caller 2 _) (λ eight.
+      rw (code-none row one two three four five six seven eight) tt))))))))
+    where
+      code : (k : ℕ) (r : RequestRead) → (at row 0 ≡ k → requestOf row ≡ r) → Calls (at row 6) r
+          → ((at row 0 ≡ k → ⊥) → Calls (at row 6) (requestOf row)) → Calls (at row 6) (requestOf row)
+      code k r reads calls others = by-cases (ℕ-discrete (at row 0) k) (λ e. rw (reads e) calls) others

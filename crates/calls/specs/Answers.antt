@@ -3,7 +3,7 @@ use Prim.Native.Nat.{ℕ}
 use mathlib.Core.Bool.{cond}
 use Rattle.motion.specs.Orders.{orderNumber, orderCap}
 use Rattle.calls.specs.declared.Refusal.{Refusal}
-use Rattle.calls.specs.declared.Refusal.the-variants.{BadLine, OutOfTurn, BadSetting, BadEntry, OnLine, LineFull, BadHead, NoTrain, NotAllowed, BadRequest, OldNumber, OtherLength, NoTrack, BadPlace, NotLeaving}
+use Rattle.calls.specs.declared.Refusal.the-variants.{BadLine, OutOfTurn, BadSetting, BadEntry, OnLine, LineFull, BadHead, NoTrain, NotAllowed, BadRequest, OldNumber, OtherLength, NoTrack, BadPlace, NotLeaving, NoRight}
 use Rattle.calls.specs.declared.Answer.{Answer}
 use Rattle.calls.specs.declared.Answer.the-variants.{Accepted, Refused}
 use Rattle.calls.specs.declared.Values.the-variants.{Entered, Ordered, Extended, Zeros}
@@ -40,6 +40,8 @@ refusalNumber NoTrack = 13
 refusalNumber BadPlace = 14
 -- the yard: train not first, or not standing under brake
 refusalNumber NotLeaving = 15
+-- any caller: caller without the right
+refusalNumber NoRight = 16
 
 abbrev pub numbers : ℕ → ℕ → ℕ → ℕ → Numbers
 numbers n a b c = record { number = n; first = a; second = b; third = c }

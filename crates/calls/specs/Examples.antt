@@ -5,7 +5,7 @@ use mathlib.Core.Bool.{true, false}
 use mathlib.Core.List.{List, [], _∷_}
 use Rattle.motion.specs.declared.Order.the-variants.{Drive, Brake}
 use Rattle.calls.specs.declared.Refusal.{Refusal}
-use Rattle.calls.specs.declared.Refusal.the-variants.{BadLine, OutOfTurn, BadSetting, BadEntry, OnLine, LineFull, BadHead, NoTrain, NotAllowed, BadRequest, OldNumber, OtherLength, NoTrack, BadPlace, NotLeaving}
+use Rattle.calls.specs.declared.Refusal.the-variants.{BadLine, OutOfTurn, BadSetting, BadEntry, OnLine, LineFull, BadHead, NoTrain, NotAllowed, BadRequest, OldNumber, OtherLength, NoTrack, BadPlace, NotLeaving, NoRight}
 use Rattle.calls.specs.declared.Answer.{Answer}
 use Rattle.calls.specs.declared.Answer.the-variants.{Accepted, Refused}
 use Rattle.calls.specs.declared.Values.{Values}
@@ -60,6 +60,8 @@ answers =
     ∷ refusal BadPlace 14
     -- train not first, or not standing under brake
     ∷ refusal NotLeaving 15
+    -- caller without the right
+    ∷ refusal NoRight 16
     -- enter gives B, j and end
     ∷ accepted (Entered 51 52 53) 51 52 53
     -- report gives 1 drive or 2 brake, cap (0 with brake), reach
@@ -74,21 +76,21 @@ answers =
 
 -- ---- requests
 
--- a row of numbers, the code first, and what it asks
+-- a row of numbers, the code first and the caller last, and what it asks
 pub record Asking : Type 0 where
   pub row : List ℕ
   pub read : RequestRead
 
 abbrev pub asks : ℕ → ℕ → ℕ → ℕ → ℕ → ℕ → RequestRead → Asking
-asks code a b c d e r = record { row = code ∷ a ∷ b ∷ c ∷ d ∷ e ∷ []; read = r }
+asks code a b c d e r = record { row = code ∷ a ∷ b ∷ c ∷ d ∷ e ∷ 56 ∷ []; read = r }
 
 abbrev pub call : Call → RequestRead
-call c = Read (request (OnTable c))
+call c = Read (request 56 (OnTable c))
 
 abbrev pub requests : List Asking
 requests =
     -- 1 open (line end, safety distance, V, A)
-    asks 1 51 52 53 54 0 (Read (request (Open (record { end = 51; safety = 52; ceiling = 53; traction = 54 }))))
+    asks 1 51 52 53 54 0 (Read (request 56 (Open (record { end = 51; safety = 52; ceiling = 53; traction = 54 }))))
     ∷ asks 1 51 52 53 54 1 Unreadable
     -- 2 enter (id, head, length, load, starting number)
     ∷ asks 2 51 52 53 54 55 (call (Enter (record { id = 51; head = 52; length = 53; load = 54; start = 55 })))

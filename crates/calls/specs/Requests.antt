@@ -1,9 +1,10 @@
--- Document 01, "The session program": the codes of the calls and the numbers that each has, in a row with the code first.
+-- Document 01, "The session program", and document 02, (iii): the codes of the calls and the numbers that each has, in a row with the code
+-- first and the caller last.
 use Prim.Native.Nat.{ℕ}
 use mathlib.Core.Bool.{Bool, true, cond, _&&_}
 use mathlib.Core.List.{List, [], _∷_}
 use lib.Dec.{eqb}
-use lib.ListN.{getD, drop}
+use lib.ListN.{getD, take, drop}
 use Rattle.calls.specs.declared.Opening.{Opening}
 use Rattle.calls.specs.declared.Entry.{Entry}
 use Rattle.calls.specs.declared.Reading.{Reading}
@@ -27,12 +28,16 @@ allZero (n ∷ ns) = eqb n 0 && allZero ns
 abbrev pub zeroFrom : ℕ → List ℕ → Bool
 zeroFrom n row = allZero (drop n row)
 
-abbrev pub request : Ask → Request
-request a = record { asks = a }
+abbrev pub request : ℕ → Ask → Request
+request n a = record { caller = n; asks = a }
+
+-- the caller stands after the code and the five numbers of a call
+abbrev pub callerPlace : ℕ
+callerPlace = 6
 
 -- a request that uses the numbers before place n: unused numbers are 0
 unfoldable pub readAs : ℕ → List ℕ → Ask → RequestRead
-readAs n row a = cond (zeroFrom n row) (Read (request a)) Unreadable
+readAs n row a = cond (zeroFrom n (take callerPlace row)) (Read (request (at row callerPlace) a)) Unreadable
 
 -- line end, safety distance, V, A
 abbrev pub openingIn : List ℕ → Opening

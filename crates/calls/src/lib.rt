@@ -1,8 +1,9 @@
 // What is asked and what is answered, and both in numbers: document 01, "Authorities", "What is turned down" and "The session
-// program".
+// program"; document 02, (iii).
 ghost use mathlib.Core.Path.{_≡_};
 ghost use Rattle.calls.specs.Answers.{refusalNumber, numbersOf};
-ghost use Rattle.calls.specs.Requests.{zeroFrom, readAs, requestOf};
+ghost use lib.ListN.{take};
+ghost use Rattle.calls.specs.Requests.{zeroFrom, callerPlace, readAs, requestOf};
 use motion::Order;
 
 // ---- what is asked
@@ -58,8 +59,9 @@ pub enum Ask {
     OnTable(Call),
 }
 
-// A request, as a line makes it.
+// A request, as a line makes it: the number of its caller, and what is asked.
 pub struct Request {
+    pub caller: u64,
     pub asks: Ask,
 }
 
@@ -69,8 +71,10 @@ pub enum RequestRead {
     Unreadable,
 }
 
-// Numbers in a row: the call code and five more.
-pub const ROW: usize = 6;
+// Numbers in a row: the call code and five more, then the caller.
+pub const ROW: usize = 7;
+
+const CALLER: usize = ROW - 1;
 
 // ---- what is answered
 
@@ -91,6 +95,7 @@ pub enum Refusal {
     NoTrack,
     BadPlace,
     NotLeaving,
+    NoRight,
 }
 
 // What an accepted call gives. Entered: B, j and end. Ordered: the order and its reach. Extended: the end, and whether the request
@@ -137,6 +142,7 @@ fn refusal_number(r: Refusal) -> u64
         Refusal::NoTrack => 13,
         Refusal::BadPlace => 14,
         Refusal::NotLeaving => 15,
+        Refusal::NoRight => 16,
     }
 }
 
@@ -189,12 +195,12 @@ pub fn numbers_of(a: Answer) -> Numbers
 
 // ---- requests in numbers
 
-// Whether the numbers from place n on are 0.
+// Whether the numbers of a call from place n on are 0.
 fn zero_from(row: [u64; ROW], n: usize) -> bool
-    ensures { λ r. ⌜ r ≡ zeroFrom n row ⌝ }
+    ensures { λ r. ⌜ r ≡ zeroFrom n (take callerPlace row) ⌝ }
 {
     let mut i = n;
-    while i < ROW {
+    while i < CALLER {
         if row[i] != 0 {
             return false;
         }
@@ -208,12 +214,15 @@ fn read_as(row: [u64; ROW], n: usize, a: Ask) -> RequestRead
     ensures { λ r. ⌜ r ≡ readAs n row a ⌝ }
 {
     if zero_from(row, n) {
-        return RequestRead::Read(Request { asks: a });
+        return RequestRead::Read(Request {
+            caller: row[CALLER],
+            asks: a,
+        });
     }
     RequestRead::Unreadable
 }
 
-// What a row of numbers asks, its code first.
+// What a row of numbers asks, its code first and its caller last.
 pub fn request_of(row: [u64; ROW]) -> RequestRead
     ensures { λ r. ⌜ r ≡ requestOf row ⌝ }
 {

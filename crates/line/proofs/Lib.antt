@@ -1,3 +1,4 @@
 pub mod Steps
 pub mod Rules
+pub mod Rights
 pub mod Stays

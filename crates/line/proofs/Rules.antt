@@ -1,4 +1,5 @@
 -- What document 01 says of the calls, in its words: which are taken, exactly, and what each leaves. In numbers and in the fields of records.
+-- `step` and `openDecision` are what a call comes to by a caller with the right (Rights: call-rightful, open-rightful).
 -- Assumes nothing.
 use Prim.Native.Nat.{ℕ, _*_, _≤_, _<_}
 use mathlib.Core.Bool.{true, false, _&&_}
@@ -74,15 +75,15 @@ refusal-keeps t r refuses = go (decided true t r) (any-request t (λ r d. Kept d
 
 -- ---- out of turn
 
--- 2 "call before an accepted opening"
-pub call-2 : (t : Table) (c : Call) → decided false t (request (OnTable c)) ≡ refused OutOfTurn
+-- 2 "call before an accepted opening", whoever calls
+pub call-2 : (t : Table) (n : ℕ) (c : Call) → decided false t (request n (OnTable c)) ≡ refused OutOfTurn
 unfolding decided
-call-2 t c = refl
+call-2 t n c = refl
 
 -- 2 "or an opening after one"
-pub open-2 : (t : Table) (o : Opening) → decided true t (request (Open o)) ≡ refused OutOfTurn
+pub open-2 : (t : Table) (n : ℕ) (o : Opening) → decided true t (request n (Open o)) ≡ refused OutOfTurn
 unfolding decided
-open-2 t o = refl
+open-2 t n o = refl
 
 -- ---- open
 

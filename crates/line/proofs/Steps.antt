@@ -2,7 +2,7 @@
 -- checks.
 -- Assumes nothing.
 use Prim.Native.Nat.{ℕ, _≤_, _<_}
-use mathlib.Core.Bool.{Bool, true, false, cond, not, _&&_}
+use mathlib.Core.Bool.{Bool, true, false, not, _&&_}
 use mathlib.Core.Option.{Option, none, some}
 use mathlib.Core.List.{[], _∷_}
 use mathlib.Core.Path.{_≡_, refl, sym, ap, _∙_}
@@ -23,11 +23,13 @@ use Rattle.calls.specs.declared.Ask.{Ask}
 use Rattle.calls.specs.declared.Ask.the-variants.{Open, OnTable}
 use Rattle.calls.specs.declared.Request.{Request}
 use Rattle.calls.specs.declared.Refusal.{Refusal}
-use Rattle.calls.specs.declared.Refusal.the-variants.{OutOfTurn, BadSetting, BadEntry, OnLine, LineFull, BadHead, NoTrain, NotLeaving}
+use Rattle.calls.specs.declared.Refusal.the-variants.{OutOfTurn, BadSetting, BadEntry, OnLine, LineFull, BadHead, NoTrain, NotLeaving, NoRight}
 use Rattle.calls.specs.declared.Answer.the-variants.{Accepted}
 use Rattle.calls.specs.declared.Values.{Values}
 use Rattle.calls.specs.declared.Values.the-variants.{Entered, Zeros}
 use Rattle.calls.specs.Checks.{check, firstOf}
+use Rattle.calls.specs.Requests.{request}
+use Rattle.rights.specs.Rights.{mayAsk}
 use Rattle.calls.proofs.Checks.{passed}
 use Rattle.train.specs.declared.Train.{Train}
 use Rattle.train.specs.declared.Limit.{Limit}
@@ -107,9 +109,9 @@ pub any-request : (t : Table) (P : Request → Decision → Type 0) → ((r : Re
 unfolding decided
 any-request t P refuses does r = go (r .asks) refl
   where
-    go : (a : Ask) → r .asks ≡ a → P r (cond (outOfTurn true a) (refused OutOfTurn) (decideOn t a))
+    go : (a : Ask) → r .asks ≡ a → P r (decided true t (request (r .caller) a))
     go (Open o) e = refuses r OutOfTurn
-    go (OnTable c) e = does r c e
+    go (OnTable c) e = by-test (mayAsk (r .caller) (OnTable c)) (λ may. rw may (does r c e)) (λ lacks. rw lacks (refuses r NoRight))
 
 -- ---- open
 
@@ -126,7 +128,9 @@ open-fits t o = by-test (settingsInRange o) (λ e. rw (open-taken o e) tt) (λ e
 
 pub decided-fits : (opened : Bool) (t : Table) → length (t .trains) ≡ places → (r : Request) → Fits t (decided opened t r .change)
 unfolding decideOn decided
-decided-fits opened t size r = by-test (outOfTurn opened (r .asks)) (λ e. rw e tt) (λ e. rw e (fits (r .asks)))
+decided-fits opened t size r =
+    by-test (outOfTurn opened (r .asks)) (λ e. rw e tt)
+    (λ e. by-test (mayAsk (r .caller) (r .asks)) (λ may. rw (e, may) (fits (r .asks))) (λ lacks. rw (e, lacks) tt))
   where
     fits : (a : Ask) → Fits t (decideOn t a .change)
     fits (Open o) = open-fits t o

@@ -1,5 +1,5 @@
--- Document 01, "Authorities" and "What is turned down": a request on a table is decided. The decision is the answer and what changes in the
--- table, for every table and every number.
+-- Document 01, "Authorities" and "What is turned down", and document 02, (iii): a request on a table is decided. The decision is the
+-- answer and what changes in the table, for every table and every number.
 use Prim.Native.Nat.{ℕ}
 use mathlib.Core.Bool.{Bool, cond, not, _&&_}
 use mathlib.Core.Option.{Option, none, some}
@@ -17,11 +17,12 @@ use Rattle.calls.specs.declared.Ask.{Ask}
 use Rattle.calls.specs.declared.Ask.the-variants.{Open, OnTable}
 use Rattle.calls.specs.declared.Request.{Request}
 use Rattle.calls.specs.declared.Refusal.{Refusal}
-use Rattle.calls.specs.declared.Refusal.the-variants.{OutOfTurn, BadSetting, BadEntry, OnLine, LineFull, BadHead, NoTrain, NotLeaving}
+use Rattle.calls.specs.declared.Refusal.the-variants.{OutOfTurn, BadSetting, BadEntry, OnLine, LineFull, BadHead, NoTrain, NotLeaving, NoRight}
 use Rattle.calls.specs.declared.Answer.the-variants.{Accepted, Refused}
 use Rattle.calls.specs.declared.Values.{Values}
 use Rattle.calls.specs.declared.Values.the-variants.{Entered, Zeros}
 use Rattle.calls.specs.Checks.{Check, check, firstOf}
+use Rattle.rights.specs.Rights.{mayAsk}
 use Rattle.train.specs.Ranges.{settingsInRange, settingsOf}
 use Rattle.train.specs.Record.{figuresFor, entering}
 use Rattle.train.specs.Track.{stepsOf, withinLimit}
@@ -91,6 +92,8 @@ abbrev pub outOfTurn : Bool → Ask → Bool
 outOfTurn opened (Open o) = opened
 outOfTurn opened (OnTable c) = not opened
 
--- a request, before an accepted opening or after one: 2, then what is asked
+-- a request, before an accepted opening or after one: 2, 16 caller without the right, then what is asked
 unfoldable pub decided : Bool → Table → Request → Decision
-decided opened t r = cond (outOfTurn opened (r .asks)) (refused OutOfTurn) (decideOn t (r .asks))
+decided opened t r =
+    cond (outOfTurn opened (r .asks)) (refused OutOfTurn)
+    (cond (mayAsk (r .caller) (r .asks)) (decideOn t (r .asks)) (refused NoRight))

@@ -22,13 +22,13 @@ carriedOut t d = outcome (d .answer) (changed t (d .change))
 abbrev pub requested : Bool → Table → Request → Outcome
 requested opened t r = carriedOut t (decided opened t r)
 
--- what any call but open does
-unfoldable pub step : Table → Call → Outcome
-step t c = carriedOut t (decideOn t (OnTable c))
-
--- What open does. It takes no table. Refused, it makes none: zeros stand for one.
+-- An opening takes no table. Refused, it makes none: zeros stand for one.
 abbrev pub noTable : Table
 noTable = emptyTable (settingsOf (record { end = 0; safety = 0; ceiling = 0; traction = 0 }))
+
+-- what a call comes to by a caller with the right: any but open, and open
+unfoldable pub step : Table → Call → Outcome
+step t c = carriedOut t (decideOn t (OnTable c))
 
 unfoldable pub openStep : Opening → Outcome
 openStep o = carriedOut noTable (openDecision o)

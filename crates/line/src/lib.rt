@@ -1,5 +1,5 @@
-// The calls on the table of trains: document 01, "Authorities" and "What is turned down". Each is decided first, and then the table
-// is changed.
+// The calls on the table of trains: document 01, "Authorities" and "What is turned down"; document 02, (iii). Each names its caller. It is
+// decided first, and then the table is changed.
 ghost use mathlib.Core.Path.{_≡_};
 ghost use mathlib.Core.Bool.{true, false, _&&_};
 ghost use Prim.Native.Nat.{_≤_};
@@ -171,9 +171,14 @@ fn out_of_turn(opened: bool, a: Ask) -> bool
 pub fn decide(opened: bool, t: Table, r: Request) -> Decision
     ensures { λ d. ⌜ d ≡ decided opened t r ⌝ }
 {
+    let caller = r.caller;
     let asks = r.asks;
     if out_of_turn(opened, asks) {
         return refuse(Refusal::OutOfTurn);
+    }
+    // Before every look at the table: who has no right learns nothing of it.
+    if !rights::may_ask(caller, asks) {
+        return refuse(Refusal::NoRight);
     }
     decide_ask(t, asks)
 }
@@ -205,63 +210,59 @@ pub fn no_table() -> Table
     }))
 }
 
-pub fn open(o: Opening) -> Outcome
-    ensures { λ r. ⌜ r ≡ requested false noTable (request (Ask.Open o)) ⌝ }
+pub fn open(caller: u64, o: Opening) -> Outcome
+    ensures { λ r. ⌜ r ≡ requested false noTable (request caller (Ask.Open o)) ⌝ }
 {
-    apply(false, no_table(), Request { asks: Ask::Open(o) })
+    let asks = Ask::Open(o);
+    apply(false, no_table(), Request { caller, asks })
 }
 
 // Any call but open.
-fn call(t: Table, c: Call) -> Outcome
-    ensures { λ r. ⌜ r ≡ requested true t (request (Ask.OnTable c)) ⌝ }
+fn call(t: Table, caller: u64, c: Call) -> Outcome
+    ensures { λ r. ⌜ r ≡ requested true t (request caller (Ask.OnTable c)) ⌝ }
 {
-    apply(
-        true,
-        t,
-        Request {
-            asks: Ask::OnTable(c),
-        },
-    )
+    let asks = Ask::OnTable(c);
+    apply(true, t, Request { caller, asks })
 }
 
-pub fn enter(t: Table, e: Entry) -> Outcome
-    ensures { λ r. ⌜ r ≡ requested true t (request (Ask.OnTable (Call.Enter e))) ⌝ }
+pub fn enter(t: Table, caller: u64, e: Entry) -> Outcome
+    ensures { λ r. ⌜ r ≡ requested true t (request caller (Ask.OnTable (Call.Enter e))) ⌝ }
 {
-    call(t, Call::Enter(e))
+    call(t, caller, Call::Enter(e))
 }
 
-pub fn report(t: Table, id: u64, r: Reading) -> Outcome
-    ensures { λ o. ⌜ o ≡ requested true t (request (Ask.OnTable (Call.Own id (Act.Report r)))) ⌝ }
+pub fn report(t: Table, caller: u64, id: u64, r: Reading) -> Outcome
+    ensures { λ o. ⌜ o ≡ requested true t (request caller (Ask.OnTable (Call.Own id (Act.Report r)))) ⌝ }
 {
-    call(t, Call::Own(id, Act::Report(r)))
+    call(t, caller, Call::Own(id, Act::Report(r)))
 }
 
-pub fn extend(t: Table, id: u64, q: Asked) -> Outcome
-    ensures { λ r. ⌜ r ≡ requested true t (request (Ask.OnTable (Call.Own id (Act.Extend q)))) ⌝ }
+pub fn extend(t: Table, caller: u64, id: u64, q: Asked) -> Outcome
+    ensures { λ r. ⌜ r ≡ requested true t (request caller (Ask.OnTable (Call.Own id (Act.Extend q)))) ⌝ }
 {
-    call(t, Call::Own(id, Act::Extend(q)))
+    call(t, caller, Call::Own(id, Act::Extend(q)))
 }
 
-pub fn call_back(t: Table, id: u64, place: u64) -> Outcome
-    ensures { λ r. ⌜ r ≡ requested true t (request (Ask.OnTable (Call.Own id (Act.CallBack place)))) ⌝ }
+pub fn call_back(t: Table, caller: u64, id: u64, place: u64) -> Outcome
+    ensures { λ r. ⌜ r ≡ requested true t (request caller (Ask.OnTable (Call.Own id (Act.CallBack place)))) ⌝ }
 {
-    call(t, Call::Own(id, Act::CallBack(place)))
+    call(t, caller, Call::Own(id, Act::CallBack(place)))
 }
 
-pub fn hold(t: Table, id: u64) -> Outcome
-    ensures { λ r. ⌜ r ≡ requested true t (request (Ask.OnTable (Call.Own id Act.Hold))) ⌝ }
+pub fn hold(t: Table, caller: u64, id: u64) -> Outcome
+    ensures { λ r. ⌜ r ≡ requested true t (request caller (Ask.OnTable (Call.Own id Act.Hold))) ⌝ }
 {
-    call(t, Call::Own(id, Act::Hold))
+    call(t, caller, Call::Own(id, Act::Hold))
 }
 
-pub fn lift(t: Table, id: u64) -> Outcome
-    ensures { λ r. ⌜ r ≡ requested true t (request (Ask.OnTable (Call.Own id Act.Lift))) ⌝ }
+pub fn lift(t: Table, caller: u64, id: u64) -> Outcome
+    ensures { λ r. ⌜ r ≡ requested true t (request caller (Ask.OnTable (Call.Own id Act.Lift))) ⌝ }
 {
-    call(t, Call::Own(id, Act::Lift))
+    call(t, caller, Call::Own(id, Act::Lift))
 }
 
-pub fn take_off(t: Table, id: u64) -> Outcome
-    ensures { λ r. ⌜ r ≡ requested true t (request (Ask.OnTable (Call.TakeOff id))) ⌝ }
+pub fn take_off(t: Table, caller: u64, id: u64) -> Outcome
+    ensures { λ r. ⌜ r ≡ requested true t (request caller (Ask.OnTable (Call.TakeOff id))) ⌝ }
 {
-    call(t, Call::TakeOff(id))
+    call(t, caller, Call::TakeOff(id))
 }

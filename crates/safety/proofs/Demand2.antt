@@ -1,6 +1,7 @@
 -- Demand 2, a law to a sentence: in its words and order, of every table that a list of calls left on an opened line, in numbers and in the
 -- fields of records. What each law cites is said of one train in acts/proofs/Sentences and train/proofs/Sentences, of motion and caps in
 -- motion/proofs/Sentences and OrderSentences, of figures in brake/proofs/Sentences. Entering and taking off, which ask no list, are in line/proofs/Rules.
+-- `step` is what a call comes to by a caller with the right (line/proofs/Rights: call-rightful).
 -- Assumes nothing.
 use Prim.Native.Nat.{ℕ, suc, _+_, _*_, _≤_, _<_}
 use mathlib.Core.Bool.{Bool, true, false}

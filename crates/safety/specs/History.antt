@@ -132,6 +132,7 @@ without id (x ∷ xs) = cond (eqb (x .entry .id) id) (without id xs) (x ∷ with
 
 -- after an accepted call with its answer
 unfoldable pub toldCall : List Told → Numbers → Ask → List Told
+-- a new table has no train; on an open line no opening is accepted
 toldCall xs n (Open o) = []
 toldCall xs n (OnTable (Enter e)) = xs ++ (toldEntering e n ∷ [])
 toldCall xs n (OnTable (Own id a)) = map (toldOwn id n a) xs

@@ -1,29 +1,40 @@
--- Worked examples: a list of calls for the words of demand 3 (proofs/Worked: worked), and histories that no controller may have, since the
+-- Worked examples: a list of requests for the words of demand 3 (proofs/Worked: worked), and histories that no controller may have, since the
 -- claim does not hold of them (proofs/Refuted).
 use Prim.Native.Nat.{ℕ}
 use mathlib.Core.Option.{Option, none, some}
 use mathlib.Core.List.{List, [], _∷_, map}
 use lib.ListN.{replicate}
 use Rattle.calls.specs.declared.Opening.{Opening}
-use Rattle.calls.specs.declared.Act.{Act}
 use Rattle.calls.specs.declared.Act.the-variants.{Report, Extend, Hold, Lift}
-use Rattle.calls.specs.declared.Call.{Call}
 use Rattle.calls.specs.declared.Call.the-variants.{Enter, Own, TakeOff}
-use Rattle.calls.specs.declared.Ask.the-variants.{OnTable}
+use Rattle.calls.specs.declared.Ask.the-variants.{Open, OnTable}
+use Rattle.calls.specs.declared.Request.{Request}
 use Rattle.calls.specs.Answers.{numbers}
 use Rattle.calls.specs.Requests.{request}
 use Rattle.line.specs.Step.{openStep}
 use Rattle.safety.specs.History.{Event, history, Told, told, rearOf}
 use Rattle.safety.specs.Claim.{countedReports}
 
-abbrev pub enter : ℕ → ℕ → ℕ → ℕ → ℕ → Call
-enter id h l load s = Enter (record { id = id; head = h; length = l; load = load; start = s })
+-- the yard, 70,000: enter, take off
+abbrev pub enter : ℕ → ℕ → ℕ → ℕ → ℕ → Request
+enter id h l load s = request 70000 (OnTable (Enter (record { id = id; head = h; length = l; load = load; start = s })))
 
-abbrev pub report : ℕ → ℕ → Act
-report h v = Report (record { head = h; speed = v })
+abbrev pub takeOff : ℕ → Request
+takeOff id = request 70000 (OnTable (TakeOff id))
 
-abbrev pub extend : ℕ → ℕ → Act
-extend n l = Extend (record { number = n; length = l })
+-- a train, for itself: report, extend
+abbrev pub report : ℕ → ℕ → ℕ → Request
+report id h v = request id (OnTable (Own id (Report (record { head = h; speed = v }))))
+
+abbrev pub extend : ℕ → ℕ → ℕ → Request
+extend id n l = request id (OnTable (Own id (Extend (record { number = n; length = l }))))
+
+-- the dispatcher, 0: hold, lift
+abbrev pub hold : ℕ → Request
+hold id = request 0 (OnTable (Own id Hold))
+
+abbrev pub lift : ℕ → Request
+lift id = request 0 (OnTable (Own id Lift))
 
 -- the line of document 01's worked session
 abbrev pub sessionLine : Opening
@@ -31,35 +42,39 @@ sessionLine = record { end = 200000000000; safety = 8000000000; ceiling = 268224
 
 -- Train 7 leaves and enters again: nothing of its first stay counts. In its second it is held and lifted, and braked while it moves: that count
 -- goes on after the lift and with more track. Train 9 is braked while it moves too, but stands afterwards. It is held, lifted and held twice: the
--- reports count from the first hold after the lift. Its taking off (15) and its report beyond the worst case (9) are refused and count nowhere.
-abbrev pub workedCalls : List Call
-workedCalls =
+-- reports count from the first hold after the lift. Its taking off (15) and its report beyond the worst case (9) are refused and count nowhere. So
+-- are a hold of train 7 by the yard, a report of train 9 for train 7 (16) and an opening (2).
+abbrev pub workedRequests : List Request
+workedRequests =
     enter 7 14295120000 2345 1 0
-    ∷ Own 7 Hold
-    ∷ Own 7 (report 14295120000 0)
-    ∷ TakeOff 7
+    ∷ hold 7
+    ∷ report 7 14295120000 0
+    ∷ takeOff 7
     ∷ enter 7 24295120000 2345 2 5
-    ∷ Own 7 (extend 6 1000000000)
-    ∷ Own 7 (report 24295120000 0)
-    ∷ Own 7 Hold
-    ∷ Own 7 (report 24295123726 3726)
-    ∷ Own 7 Lift
-    ∷ Own 7 (extend 7 1)
-    ∷ Own 7 (report 24295131000 3000)
+    ∷ extend 7 6 1000000000
+    ∷ report 7 24295120000 0
+    ∷ hold 7
+    ∷ report 7 24295123726 3726
+    ∷ lift 7
+    ∷ extend 7 7 1
+    ∷ report 7 24295131000 3000
+    ∷ request 70000 (OnTable (Own 7 Hold))
+    ∷ request 9 (OnTable (Own 7 (Report (record { head = 24295131000; speed = 0 }))))
+    ∷ request 0 (Open sessionLine)
     ∷ enter 9 1000000000 100 3 0
-    ∷ TakeOff 9
-    ∷ Own 9 (extend 1 100000000)
-    ∷ Own 9 (report 1000000000 0)
-    ∷ Own 9 Hold
-    ∷ Own 9 (report 1000003726 3726)
-    ∷ Own 9 Lift
-    ∷ Own 9 Hold
-    ∷ Own 9 (report 1000003726 0)
-    ∷ Own 9 Hold
-    ∷ Own 9 (report 1000003727 0)
-    ∷ Own 9 (extend 3 500)
-    ∷ Own 9 (extend 3 500)
-    ∷ Own 9 (report 1000003726 0)
+    ∷ takeOff 9
+    ∷ extend 9 1 100000000
+    ∷ report 9 1000000000 0
+    ∷ hold 9
+    ∷ report 9 1000003726 3726
+    ∷ lift 9
+    ∷ hold 9
+    ∷ report 9 1000003726 0
+    ∷ hold 9
+    ∷ report 9 1000003727 0
+    ∷ extend 9 3 500
+    ∷ extend 9 3 500
+    ∷ report 9 1000003726 0
     ∷ []
 
 pub record Words : Type 0 where
@@ -85,8 +100,8 @@ wordsOf x =
       braked = x .now .counts .braked;
     }
 
-abbrev pub wordsAfter : Opening → List Call → List Words
-wordsAfter o cs = map wordsOf (told (history (openStep o .table) (map (λ (c : Call). request (OnTable c)) cs)))
+abbrev pub wordsAfter : Opening → List Request → List Words
+wordsAfter o rs = map wordsOf (told (history (openStep o .table) rs))
 
 abbrev pub workedWords : List Words
 workedWords =
@@ -96,9 +111,9 @@ workedWords =
 
 -- ---- the count of document 01's example, and histories that break the claim
 
--- an accepted call with its three values
-abbrev pub said : Call → ℕ → ℕ → ℕ → Event
-said c a b d = record { request = request (OnTable c); answer = numbers 0 a b d }
+-- an accepted request with its three values
+abbrev pub said : Request → ℕ → ℕ → ℕ → Event
+said r a b d = record { request = r; answer = numbers 0 a b d }
 
 -- the session's train
 abbrev pub loadedEnters : Event
@@ -111,7 +126,7 @@ heldCount (x ∷ xs) = countedReports sessionLine x
 
 -- its head is past its end, by one step
 abbrev pub headPastEnd : List Event
-headPastEnd = loadedEnters ∷ said (Own 7 (report 14295120001 0)) 2 0 14295120001 ∷ []
+headPastEnd = loadedEnters ∷ said (report 7 14295120001 0) 2 0 14295120001 ∷ []
 
 -- the first train, with its rear at 20,000,000,000
 abbrev pub firstEnters : Event
@@ -135,12 +150,12 @@ overlapOfTwo =
 
 -- held, it has had 710 reports, and moves
 abbrev pub heldAndMoving : List Event
-heldAndMoving = loadedEnters ∷ said (Own 7 Hold) 0 0 0 ∷ replicate 710 (said (Own 7 (report 14295120000 1)) 2 0 14295120000)
+heldAndMoving = loadedEnters ∷ said (hold 7) 0 0 0 ∷ replicate 710 (said (report 7 14295120000 1) 2 0 14295120000)
 
 -- braked once while it moved, it has had 709 reports more, and moves: whatever they were answered with
 abbrev pub brakedAndMoving : List Event
 brakedAndMoving =
-    loadedEnters ∷ said (Own 7 (report 14295120000 1)) 2 0 14295120000 ∷ replicate 709 (said (Own 7 (report 14295120000 1)) 1 0 14295120000)
+    loadedEnters ∷ said (report 7 14295120000 1) 2 0 14295120000 ∷ replicate 709 (said (report 7 14295120000 1) 1 0 14295120000)
 
 -- its figures are those of another class
 abbrev pub figuresMadeUp : List Event

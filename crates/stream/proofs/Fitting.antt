@@ -7,7 +7,7 @@ use mathlib.Core.Option.{none, some}
 use mathlib.Core.List.{List, [], _∷_}
 use native.Mathlib.Nat.{le-refl, le-trans}
 use native.Mathlib.Omega.{arith}
-use lib.Dec.{leb}
+use lib.Dec.{eqb, leb}
 use borrow.Author.Tests.{not-false}
 use Rattle.logic.proofs.Tests.{by-test, both}
 use Rattle.ranges.specs.Ranges.{greatestLineEnd, greatestTraction}
@@ -27,7 +27,7 @@ use Rattle.calls.specs.declared.Request.{Request}
 use Rattle.calls.specs.declared.RequestRead.{RequestRead}
 use Rattle.calls.specs.declared.RequestRead.the-variants.{Read, Unreadable}
 use Rattle.calls.specs.declared.Refusal.{Refusal}
-use Rattle.calls.specs.declared.Refusal.the-variants.{BadSetting}
+use Rattle.calls.specs.declared.Refusal.the-variants.{BadSetting, NoRight}
 use Rattle.calls.specs.declared.Answer.{Answer}
 use Rattle.calls.specs.declared.Answer.the-variants.{Accepted, Refused}
 use Rattle.calls.specs.declared.Values.{Values}
@@ -36,6 +36,7 @@ use Rattle.calls.specs.declared.Numbers.{Numbers}
 use Rattle.calls.specs.Answers.{numbersOf}
 use Rattle.calls.specs.Checks.{firstOf}
 use Rattle.calls.specs.Requests.{request}
+use Rattle.rights.specs.Rights.{dispatcher, mayAsk}
 use Rattle.calls.proofs.Answers.{refusal-range}
 use Rattle.calls.proofs.Checks.{passed}
 use Rattle.train.specs.Ranges.{settingsInRange}
@@ -136,11 +137,11 @@ opening-shown o =
     (λ bad. rw (open-refused o bad) (refused-shown BadSetting))
 
 closed-shown : AllShown closed
-unfolding lineDecision decided decideOn
+unfolding lineDecision decided decideOn mayAsk
 closed-shown (Read r) = go (r .asks)
   where
-    go : (a : Ask) → Shown (lineDecision closed (Read (request a)) .answer)
-    go (Open o) = opening-shown o
+    go : (a : Ask) → Shown (lineDecision closed (Read (request (r .caller) a)) .answer)
+    go (Open o) = by-test (eqb (r .caller) dispatcher) (λ right. rw right (opening-shown o)) (λ lacks. rw lacks (refused-shown NoRight))
     go (OnTable c) = omega arith
 closed-shown Unreadable = omega arith
 

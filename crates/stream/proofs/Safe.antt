@@ -4,6 +4,8 @@ use mathlib.Core.Path.{_≡_, refl, ap, _∙_}
 use mathlib.Core.Bool.{true}
 use mathlib.Core.Logic.{_⊎_, inl, inr}
 use mathlib.Core.List.{List, [], _∷_, _++_, map}
+use lib.Dec.{eqb}
+use borrow.Author.Tests.{eqb-true}
 use Rattle.logic.proofs.Tests.{by-test}
 use Rattle.calls.specs.declared.Opening.{Opening}
 use Rattle.calls.specs.declared.Ask.{Ask}
@@ -12,6 +14,7 @@ use Rattle.calls.specs.declared.Request.{Request}
 use Rattle.calls.specs.declared.RequestRead.{RequestRead}
 use Rattle.calls.specs.declared.RequestRead.the-variants.{Read, Unreadable}
 use Rattle.calls.specs.Requests.{request}
+use Rattle.rights.specs.Rights.{dispatcher, mayAsk}
 use Rattle.train.specs.Ranges.{settingsInRange, settingsOf}
 use Rattle.table.specs.declared.Table.{Table}
 use Rattle.table.specs.Table.{emptyTable}
@@ -82,10 +85,10 @@ module _ (l : List ℕ) (ls : List (List ℕ)) where
         demand = o .demand;
       })
 
-  module _ (o : Opening) (read : lineRead l ≡ Read (request (Open o))) where
+  module _ (o : Opening) (read : lineRead l ≡ Read (request 0 (Open o))) where
     opening-leaves : (d : Decision) → openDecision o ≡ d → answered closed l .session ≡ replied closed d .session
-    unfolding lineDecision decided decideOn
-    opening-leaves d e = leaves (Read (request (Open o))) read ∙ ap (λ (v : Decision). replied closed v .session) e
+    unfolding lineDecision decided decideOn mayAsk
+    opening-leaves d e = leaves (Read (request 0 (Open o))) read ∙ ap (λ (v : Decision). replied closed v .session) e
 
     safe-opened : settingsInRange o ≡ true → Opened (l ∷ ls)
     unfolding after openStep
@@ -117,12 +120,19 @@ module _ (l : List ℕ) (ls : List (List ℕ)) where
         (λ bad. safe-skip (opening-leaves _ (open-refused o bad)) next)
 
   safe-line : (r : RequestRead) → lineRead l ≡ r → Safe ls → Safe (l ∷ ls)
-  unfolding lineDecision decided
+  unfolding lineDecision decided mayAsk
   safe-line (Read r) e = go (r .asks) refl
     where
+      -- the state after it
+      by-asks : (a : Ask) → r .asks ≡ a → answered closed l .session ≡ repliedTo closed (Read (request (r .caller) a)) .session
+      by-asks a q = leaves (Read r) e ∙ ap (λ (a : Ask). repliedTo closed (Read (request (r .caller) a)) .session) q
+
       go : (a : Ask) → r .asks ≡ a → Safe ls → Safe (l ∷ ls)
-      go (Open o) q = safe-opening o (e ∙ ap (λ (a : Ask). Read (request a)) q)
-      go (OnTable c) q = safe-skip (leaves (Read r) e ∙ ap (λ (a : Ask). repliedTo closed (Read (request a)) .session) q)
+      go (Open o) q =
+          by-test (eqb (r .caller) dispatcher)
+          (λ right. safe-opening o (e ∙ ap (λ (a : Ask). Read (request (r .caller) a)) q ∙ ap (λ (n : ℕ). Read (request n (Open o))) (eqb-true (r .caller) 0 right)))
+          (λ lacks. safe-skip (by-asks (Open o) q ∙ rw lacks))
+      go (OnTable c) q = safe-skip (by-asks (OnTable c) q)
   safe-line Unreadable e = safe-skip (leaves Unreadable e)
 
 -- Whatever lines a session is given: no opening among them was accepted, and the session is as at the start; or one was, what followed

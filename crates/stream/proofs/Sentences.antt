@@ -2,8 +2,9 @@
 -- the line. Which lines can be read at all is said in wire/proofs/RoundTrip and Unique.
 -- Assumes nothing.
 use Prim.Native.Nat.{ℕ}
-use mathlib.Core.Bool.{Bool, true, false}
+use mathlib.Core.Bool.{Bool, true, false, _||_}
 use mathlib.Core.List.{List, [], _∷_, _++_}
+use lib.Dec.{eqb}
 use lib.ListN.{replicate}
 use mathlib.Core.Path.{_≡_, refl, ap, _∙_}
 use Rattle.logic.proofs.Tests.{by-test}
@@ -15,13 +16,17 @@ use Rattle.calls.specs.declared.RequestRead.{RequestRead}
 use Rattle.calls.specs.declared.RequestRead.the-variants.{Read, Unreadable}
 use Rattle.calls.specs.Answers.{numbers, numbersOf}
 use Rattle.calls.specs.Requests.{request}
+use Rattle.rights.specs.Rights.{dispatcher, mayAsk}
+use Rattle.rights.proofs.Rights.{Right}
 use Rattle.train.specs.Ranges.{settingsInRange, settingsOf}
 use Rattle.train.proofs.Sentences.{Offers}
 use Rattle.table.specs.declared.Table.{Table}
 use Rattle.table.specs.Table.{emptyTable}
+use Rattle.line.specs.declared.Outcome.{Outcome}
 use Rattle.line.specs.Decide.{decideOn, decided}
 use Rattle.line.specs.Step.{step}
 use Rattle.line.proofs.Steps.{open-taken, open-refused}
+use Rattle.line.proofs.Rights.{call-16, open-16, call-rightful}
 use Rattle.line.proofs.Rules.{refusal-keeps, call-2, open-2, open-3, open-accepted}
 use Rattle.wire.specs.Format.{lineRead, left, text, textOf, answerText}
 use Rattle.stream.specs.declared.Session.{Session}
@@ -34,6 +39,10 @@ use Rattle.stream.proofs.Safe.{repliedTo}
 abbrev refusal : ℕ → Session → Reply
 refusal n s = record { answer = numbers n 0 0 0; session = s }
 
+-- the reply that an outcome makes, before an accepted opening or after one
+abbrev replyOf : Bool → Outcome → Reply
+replyOf b u = record { answer = numbersOf (u .answer); session = session (b || eqb (numbersOf (u .answer) .number) 0) (u .table) }
+
 module _ (l : List ℕ) (t : Table) where
   answered-as : (s : Session) (r : RequestRead) → lineRead l ≡ r → answered s l ≡ repliedTo s r
   answered-as s r e = ap (repliedTo s) e
@@ -44,52 +53,66 @@ module _ (l : List ℕ) (t : Table) where
   line-1 true e = answered-as (session true t) Unreadable e
   line-1 false e = answered-as (session false t) Unreadable e
 
-  -- 2 "call before an accepted opening"
-  pub line-2 : (c : Call) → lineRead l ≡ Read (request (OnTable c)) → answered (session false t) l ≡ refusal 2 (session false t)
+  -- 2 "call before an accepted opening", whoever calls
+  pub line-2 : (n : ℕ) (c : Call) → lineRead l ≡ Read (request n (OnTable c)) → answered (session false t) l ≡ refusal 2 (session false t)
   unfolding lineDecision
-  line-2 c e = answered-as (session false t) _ e ∙ rw (call-2 t c)
+  line-2 n c e = answered-as (session false t) _ e ∙ rw (call-2 t n c)
 
   -- 2 "or an opening after one"
-  pub line-2-again : (o : Opening) → lineRead l ≡ Read (request (Open o)) → answered (session true t) l ≡ refusal 2 (session true t)
+  pub line-2-again : (n : ℕ) (o : Opening) → lineRead l ≡ Read (request n (Open o)) → answered (session true t) l ≡ refusal 2 (session true t)
   unfolding lineDecision
-  line-2-again o e = answered-as (session true t) _ e ∙ rw (open-2 t o)
+  line-2-again n o e = answered-as (session true t) _ e ∙ rw (open-2 t n o)
+
+  -- 16 "caller without the right, directly after 1 and 2": an opening, and any other call
+  pub line-16-open : (n : ℕ) (o : Opening) → lineRead l ≡ Read (request n (Open o)) → (Right n (Open o) → ⊥)
+      → answered (session false t) l ≡ refusal 16 (session false t)
+  unfolding lineDecision
+  line-16-open n o e lacks = answered-as (session false t) _ e ∙ ap (replyOf false) (open-16 n o lacks t)
+
+  pub line-16 : (n : ℕ) (c : Call) → lineRead l ≡ Read (request n (OnTable c)) → (Right n (OnTable c) → ⊥)
+      → answered (session true t) l ≡ refusal 16 (session true t)
+  unfolding lineDecision
+  line-16 n c e lacks = answered-as (session true t) _ e ∙ ap (replyOf true) (call-16 n c lacks t)
 
   -- 3 "a setting out of range"
-  pub line-3 : (o : Opening) → lineRead l ≡ Read (request (Open o)) → (Offers o → ⊥) → answered (session false t) l ≡ refusal 3 (session false t)
-  unfolding lineDecision decided decideOn
+  pub line-3 : (o : Opening) → lineRead l ≡ Read (request 0 (Open o)) → (Offers o → ⊥) → answered (session false t) l ≡ refusal 3 (session false t)
+  unfolding lineDecision decided decideOn mayAsk
   line-3 o e out = answered-as (session false t) _ e ∙ (rw (open-3 o out))
 
   -- an accepted opening: from then on the session is open, with a table of these settings and no train
-  pub line-opens : (o : Opening) → lineRead l ≡ Read (request (Open o)) → Offers o
+  pub line-opens : (o : Opening) → lineRead l ≡ Read (request 0 (Open o)) → Offers o
       → answered (session false t) l ≡ record { answer = numbers 0 0 0 0; session = session true (emptyTable (settingsOf o)) }
-  unfolding lineDecision decided decideOn
+  unfolding lineDecision decided decideOn mayAsk
   line-opens o e offers = answered-as (session false t) _ e ∙ (rw (open-accepted o offers))
 
-  -- after it a call is answered as on its table, and leaves the table that it leaves there
-  pub line-called : (c : Call) → lineRead l ≡ Read (request (OnTable c))
+  -- after it a call by a caller with the right is answered as on its table, and leaves the table that it leaves there
+  pub line-called : (n : ℕ) (c : Call) → lineRead l ≡ Read (request n (OnTable c)) → Right n (OnTable c)
       → answered (session true t) l ≡ record { answer = numbersOf (step t c .answer); session = session true (step t c .table) }
-  unfolding lineDecision decided step
-  line-called c e = answered-as (session true t) _ e
+  unfolding lineDecision
+  line-called n c e has = answered-as (session true t) _ e ∙ ap (replyOf true) (call-rightful n c has t)
 
   -- "A refusal gives its number and zeros; the whole table stays": whatever stands in the line, and in every state
   abbrev Leaves : Session → Reply → Type 0
   Leaves s r = (r .answer .number ≡ 0 → ⊥) → r ≡ refusal (r .answer .number) s
 
   pub refusal-leaves : (b : Bool) → Leaves (session b t) (answered (session b t) l)
-  unfolding lineDecision decided decideOn
+  unfolding lineDecision decided decideOn mayAsk
   refusal-leaves b = go b (lineRead l)
     where
-      before : (a : Ask) → Leaves (session false t) (repliedTo (session false t) (Read (request a)))
-      before (OnTable c) refuses = refl
-      before (Open o) refuses =
+      before : (n : ℕ) (a : Ask) → Leaves (session false t) (repliedTo (session false t) (Read (request n a)))
+      before n (OnTable c) refuses = refl
+      before n (Open o) refuses =
+          by-test (eqb n dispatcher)
+          (λ right.
           by-test (settingsInRange o)
-          (λ e. absurd (refuses (rw (open-taken o e))))
-          (λ e. rw (open-refused o e))
+          (λ e. absurd (refuses (rw (right, open-taken o e))))
+          (λ e. rw (right, open-refused o e)))
+          (λ lacks. rw lacks)
 
       go : (b : Bool) (r : RequestRead) → Leaves (session b t) (repliedTo (session b t) r)
       go true Unreadable refuses = refl
       go false Unreadable refuses = refl
-      go false (Read r) refuses = before (r .asks) refuses
+      go false (Read r) refuses = before (r .caller) (r .asks) refuses
       go true (Read r) refuses =
           let (zeros, stays) = refusal-keeps t r refuses in
           λ z. record { answer = zeros z; session = session true (stays z) }

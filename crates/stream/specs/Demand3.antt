@@ -12,6 +12,7 @@ use Rattle.calls.specs.declared.RequestRead.the-variants.{Read, Unreadable}
 use Rattle.calls.specs.declared.Answer.the-variants.{Accepted}
 use Rattle.calls.specs.declared.Values.the-variants.{Zeros}
 use Rattle.calls.specs.Requests.{request}
+use Rattle.rights.specs.Rights.{dispatcher}
 use Rattle.table.specs.declared.Table.{Table}
 use Rattle.line.specs.Step.{outcome, openStep}
 use Rattle.safety.specs.History.{Event, history}
@@ -37,8 +38,8 @@ eventsIn s [] = []
 eventsIn s (l ∷ ls) =
     map (λ (r : Request). record { request = r; answer = answered s l .answer }) (requestIn (lineRead l)) ++ eventsIn (answered s l .session) ls
 
--- The lines ls have an accepted opening in them. The table is what the requests since then left; the events since then, as read and as
--- answered, are that history; and demand 3 holds of it.
+-- The lines ls have an accepted opening in them, the dispatcher's. The table is what the requests since then left; the events since then, as
+-- read and as answered, are that history; and demand 3 holds of it.
 pub record Opened (ls : List (List ℕ)) : Type 0 where
   pub earlier : List (List ℕ)
   pub line : List ℕ
@@ -47,7 +48,7 @@ pub record Opened (ls : List (List ℕ)) : Type 0 where
   pub table : Table
   pub all : ls ≡ earlier ++ (line ∷ since)
   pub not-yet : after closed earlier ≡ closed
-  pub opening : lineRead line ≡ Read (request (Open given))
+  pub opening : lineRead line ≡ Read (request dispatcher (Open given))
   pub accepted : openStep given ≡ outcome (Accepted Zeros) table
   pub opens : answered closed line .session ≡ session true table
   pub now : after closed ls ≡ session true (History.after table (requestsIn since))

@@ -13,12 +13,12 @@ use Rattle.wire.specs.declared.Field.the-variants.{Number}
 use Rattle.wire.specs.Format.{total, callColumns, fieldOf, withNumber, numbersIn}
 
 -- no field has more columns than a number
-pub narrow : (i : ℕ) → i < 6 → getD callColumns i 0 ≤ 14
+pub narrow : (i : ℕ) → i < 7 → getD callColumns i 0 ≤ 14
 narrow zero h = omega arith
-narrow (suc i) h = let k : i < 5 = omega arith in rw getD-replicate (omega arith)
+narrow (suc i) h = let k : i < 6 = omega arith in rw getD-replicate (omega arith)
 
 -- the columns from place i on
-pub total-next : (i : ℕ) → i < 6 → total (drop i callColumns) ≡ getD callColumns i 0 + total (drop (i + 1) callColumns)
+pub total-next : (i : ℕ) → i < 7 → total (drop i callColumns) ≡ getD callColumns i 0 + total (drop (i + 1) callColumns)
 total-next i h = rw (drop-cons callColumns i 0 h, add-one i) refl
 
 -- what the columns from place i on say, where they begin after column `from`
@@ -26,7 +26,7 @@ abbrev pub remaining : List ℕ → ℕ → ℕ → Option (List ℕ)
 remaining line from i = numbersIn (drop i callColumns) (drop from line)
 
 -- reading goes on after the field at place i
-pub numbers-next : (line : List ℕ) (from i : ℕ) (f : Field) → i < 6
+pub numbers-next : (line : List ℕ) (from i : ℕ) (f : Field) → i < 7
     → let to = from + getD callColumns i 0 in
     f ≡ fieldOf (take (to - from) (drop from line)) → remaining line from i ≡ withNumber f (remaining line to (i + 1))
 unfolding numbersIn
@@ -35,7 +35,7 @@ numbers-next line from i f h e =
     rw (e, add-sub-cancel-left from w, drop-cons callColumns i 0 h, drop-drop w from line, add-one i) refl
 
 -- and ends after the last one
-pub numbers-end : (line : List ℕ) → numbersIn (drop 6 callColumns) line ≡ some []
+pub numbers-end : (line : List ℕ) → numbersIn (drop 7 callColumns) line ≡ some []
 unfolding numbersIn
 numbers-end line = refl
 

@@ -119,8 +119,9 @@ numbers-text (w ∷ ws) line ns h e =
     let rest = numbers-text ws (drop w line) ms (omega (arith, length-drop w line)) r in
     rw p (cc (take-append-drop w line), (fits .0, fits .1, rest .1))
 
--- a line that is the text of its numbers, and is read as what they ask
+-- a line that is the text of its numbers, and is read as what they ask: "86 bytes and a line feed"
 pub record Typed (line : List ℕ) : Type 0 where
+  pub long : length line ≡ 86
   pub numbers : List ℕ
   pub fits : Fits callColumns numbers
   pub text : line ≡ textOf callColumns numbers
@@ -131,7 +132,7 @@ typed-by : (line : List ℕ) (r : Option (List ℕ)) → length line ≡ callWid
 typed-by line none h e s k = absurd (k s)
 typed-by line (some ns) h e s k =
     let t = numbers-text callColumns line ns (sym h) e in
-    record { numbers = ns; fits = t .1; text = t .0; asks = s }
+    record { long = h; numbers = ns; fits = t .1; text = t .0; asks = s }
 
 -- a line that is read is the text of its own numbers, so that nothing else is taken for a request
 pub line-typed : (line : List ℕ) → (lineRead line ≡ Unreadable → ⊥) → Typed line

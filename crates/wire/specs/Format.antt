@@ -1,4 +1,5 @@
--- Document 01, "The session program": the columns of a line, read and written. Bytes are ASCII: 32 space, 48 to 57 the digits.
+-- Document 01, "The session program", and document 02, (iii): the columns of a line, read and written. Bytes are ASCII: 32 space, 48 to 57
+-- the digits.
 use Prim.Native.Nat.{ℕ, zero, suc, _+_, _-_, _*_, _/_, _%_}
 use mathlib.Core.Bool.{Bool, cond, _&&_}
 use mathlib.Core.Option.{Option, none, some}
@@ -22,11 +23,11 @@ abbrev pub total : List ℕ → ℕ
 total [] = 0
 total (w ∷ ws) = w + total ws
 
--- an input line: a call code in columns 1 to 2 and five numbers of 14 columns
+-- an input line: a call code in columns 1 to 2, five numbers of 14 columns and the caller in as many
 abbrev pub callColumns : List ℕ
-callColumns = 2 ∷ replicate 5 14
+callColumns = 2 ∷ replicate 6 14
 
--- so it has 72 bytes before its line feed
+-- so it has 86 bytes before its line feed
 abbrev pub callWidth : ℕ
 callWidth = total callColumns
 

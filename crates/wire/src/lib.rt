@@ -8,8 +8,8 @@ use calls::Numbers;
 use calls::ROW;
 use calls::RequestRead;
 
-// The columns of an input line: a code and five numbers.
-const CALL_COLUMNS: [usize; ROW] = [2, 14, 14, 14, 14, 14];
+// The columns of an input line: a code, five numbers and the caller.
+const CALL_COLUMNS: [usize; ROW] = [2, 14, 14, 14, 14, 14, 14];
 
 pub const CALL_WIDTH: usize = CALL_COLUMNS[0] + (ROW - 1) * CALL_COLUMNS[1];
 
@@ -40,7 +40,7 @@ pub enum Field {
     NoNumber,
 }
 
-// The numbers of a line, its code first. Where a field is none the line is not readable, and the numbers mean nothing. (An enum may
+// The numbers of a line, its code first and its caller last. Where a field is none the line is not readable, and the numbers mean nothing. (An enum may
 // not hold an array.)
 pub struct Row {
     pub readable: bool,

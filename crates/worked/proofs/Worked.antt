@@ -11,6 +11,7 @@ use Rattle.motion.specs.Orders.{stoppingPlace, capFits, greatest, orderFor}
 use Rattle.motion.specs.Bounds.{inBounds}
 use Rattle.calls.specs.Checks.{firstOf}
 use Rattle.calls.specs.Requests.{allZero, readAs, requestOf}
+use Rattle.rights.specs.Rights.{mayAsk}
 use Rattle.train.specs.Ranges.{settingsInRange}
 use Rattle.train.specs.Track.{stepsOf, limitBehind}
 use Rattle.train.specs.Report.{allowed, moves, mustBrake, orderAfter, isPenalty, reported, computable, reportAllowed}
@@ -28,7 +29,7 @@ use Rattle.worked.specs.Worked.{Exchange, bytesOf, inputOf, outputOf, fi
 
 -- what has been written after lines from the state s on, and how things stand then
 unfoldable ran : Session → List Exchange → Standing
-unfolding ceilDiv between carOf fullBrake applicationTime applicationCycles sheetEntry entryFor brakeCycles figuresWith figuresBy figuresOf brakeTravel brakeSpeed nextLevel driveTravel driveSpeed stands brakedCycle firstCycles enoughCycles brakedRun totalTravel stoppingDistance stoppingPlace capFits greatest orderFor inBounds firstOf allZero readAs requestOf settingsInRange requestInRange stepsOf limitBehind allowed moves mustBrake orderAfter isPenalty reported computable reportAllowed isRepeat extended isOld callBackAllowed mayLeave placeIn placeOf aheadOf openDecision enterDecision actDecision takeOffDecision decideOn decided digit column columns numbersIn lineRead left text textOf answerText lineDecision lines rest after outputLine answers bytesOf inputOf outputOf
+unfolding ceilDiv between carOf fullBrake applicationTime applicationCycles sheetEntry entryFor brakeCycles figuresWith figuresBy figuresOf brakeTravel brakeSpeed nextLevel driveTravel driveSpeed stands brakedCycle firstCycles enoughCycles brakedRun totalTravel stoppingDistance stoppingPlace capFits greatest orderFor inBounds firstOf allZero readAs requestOf settingsInRange requestInRange stepsOf limitBehind allowed moves mustBrake orderAfter isPenalty reported computable reportAllowed isRepeat extended isOld callBackAllowed mayLeave placeIn placeOf aheadOf openDecision enterDecision actDecision takeOffDecision decideOn decided mayAsk digit column columns numbersIn lineRead left text textOf answerText lineDecision lines rest after outputLine answers bytesOf inputOf outputOf
 ran s xs = standing s [] [] (inputOf xs)
 
 -- the lines xs, answered as they say from the state s on, leave the state t

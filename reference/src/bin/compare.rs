@@ -2,6 +2,7 @@
 //! generated lists, and checks demand 3's claim on what it answers.
 
 use reference::call::Code;
+use reference::callers::{TurnedAway, Wrong};
 use reference::compare::{self, Counts, Failure, ANSWERS};
 use reference::ended;
 use reference::generate;
@@ -13,6 +14,8 @@ use std::time::Instant;
 
 const DEFAULT_SEED: u64 = 20_260_101;
 const DEFAULT_LINES: u64 = 600_000;
+/// In so many lines each kind of caller without the right tries each call.
+const LINES_FOR_A_WRONG_CALLER: u64 = 10_000;
 const USAGE: &str = "usage: compare [--seed N] [--lines N] [--program PATH] [--replay FILE]";
 
 struct Options {
@@ -77,12 +80,14 @@ fn compare_lists(options: &Options) -> Result<(), String> {
     }
     clear_progress();
     print_table(&counts);
+    print_turned_away(&counts.turned_away);
     println!(
         "{:.1} s, seed {}",
         begin.elapsed().as_secs_f64(),
         options.seed
     );
-    all_numbers_occur(&counts)
+    all_numbers_occur(&counts)?;
+    all_wrong_callers_occur(&counts)
 }
 
 fn compare_list(
@@ -143,9 +148,7 @@ fn clear_progress() {
 
 fn print_table(counts: &Counts) {
     print!("{:>10}{:>11}", "answer", "unreadable");
-    Code::ALL
-        .iter()
-        .for_each(|code| print!("{:>11}", format!("{code:?}")));
+    print_codes();
     println!("{:>11}", "all");
     for number in 0..ANSWERS {
         print!("{number:>10}");
@@ -179,6 +182,46 @@ fn print_table(counts: &Counts) {
         brakes.lifted,
         brakes.together
     );
+}
+
+fn print_codes() {
+    Code::ALL
+        .iter()
+        .for_each(|code| print!("{:>11}", format!("{code:?}")));
+}
+
+/// Callers without the right, by what they are and what they called.
+fn print_turned_away(counts: &TurnedAway) {
+    print!("{:>21}", "turned away");
+    print_codes();
+    println!();
+    for kind in Wrong::ALL {
+        print!("{:>21}", format!("{kind:?}"));
+        Code::ALL
+            .iter()
+            .for_each(|&code| print!("{:>11}", counts.by_kind(kind, code)));
+        println!();
+    }
+    for (number, count) in counts.by_number() {
+        print!("{count} from {number}, ");
+    }
+    println!(
+        "{} numbers too wide; out of turn without the right: {} calls, {} openings",
+        counts.too_wide, counts.too_early, counts.second_openings
+    );
+}
+
+/// A few come from spoilt lines alone, so one of a kind is not enough.
+fn all_wrong_callers_occur(counts: &Counts) -> Result<(), String> {
+    let least = (counts.lines / LINES_FOR_A_WRONG_CALLER).max(1);
+    let rare = counts.turned_away.rare(least);
+    if rare.is_empty() {
+        return Ok(());
+    }
+    Err(format!(
+        "callers without the right, fewer than {least}: {}",
+        rare.join(", ")
+    ))
 }
 
 fn all_numbers_occur(counts: &Counts) -> Result<(), String> {

@@ -15,4 +15,4 @@ unfolding readAs
 returns-2 c = rw (sym (c .before .zero-from .ensures) ∙ c .if1 .left)
 
 pub read-as-spec : {M : Type 1} → statement M
-read-as-spec = tie.close (tie.spec (λ c κs. search needs) returns returns-2)
+read-as-spec = tie.close (tie.spec (λ c κs. search needs) (λ c. search needs) returns returns-2)

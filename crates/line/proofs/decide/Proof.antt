@@ -1,6 +1,7 @@
 -- `line::decide` meets its contract.
 -- Assumes nothing.
 use mathlib.Core.Path.{sym, _∙_}
+use borrow.Author.Tests.{not-true, not-false}
 use Rattle.line.specs.Decide.{decided}
 use borrow.Author.Needs.{needs}
 use Rattle.line.proofs.decide.Statement.{statement}
@@ -16,8 +17,25 @@ returns-2 : tie.Need-returns-2
 unfolding decided
 returns-2 c =
     let q = c .before in
-    simp (sym (q .before .out-of-turn .ensures) ∙ q .if1 .left) (c .decide-ask .ensures)
+    let turn = q .before .before in
+    simp (sym (turn .before .out-of-turn .ensures) ∙ turn .if1 .left, sym (q .before .may-ask .ensures) ∙ not-true _ (q .if2 .taken)) (c .refuse2 .ensures)
+
+returns-3 : tie.Need-returns-3
+unfolding decided
+returns-3 c =
+    let q = c .before in
+    let turn = q .before .before in
+    simp (sym (turn .before .out-of-turn .ensures) ∙ turn .if1 .left, sym (q .before .may-ask .ensures) ∙ not-false _ (q .if2 .left)) (c .decide-ask .ensures)
 
 pub decide-spec : {M : Type 1} → statement M
 decide-spec =
-    tie.close (tie.spec (λ c κs. search needs) (λ c κs. search needs) returns (λ c κs. search needs) returns-2)
+    tie.close
+    (tie.spec
+    (λ c κs. search needs)
+    (λ c κs. search needs)
+    returns
+    (λ c κs. search needs)
+    (λ c κs. search needs)
+    returns-2
+    (λ c κs. search needs)
+    returns-3)

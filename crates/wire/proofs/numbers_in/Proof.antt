@@ -15,11 +15,11 @@ use Rattle.wire.proofs.numbers_in.Tie as tie
 
 abbrev Inv-loop : tie.InvT-loop
 Inv-loop line numbers₀ from₀ i₀ numbers from i =
-    (i ≤ 6) × (length numbers ≡ 6) × (from + total (drop i callColumns) ≡ callWidth)
+    (i ≤ 7) × (length numbers ≡ 7) × (from + total (drop i callColumns) ≡ callWidth)
     × (numbersIn callColumns line ≡ before (take i numbers) (remaining line from i))
 
 abbrev μ-loop : tie.MeasureT-loop
-μ-loop line numbers₀ from₀ i₀ numbers from i = 6 - i
+μ-loop line numbers₀ from₀ i₀ numbers from i = 7 - i
 
 -- where the field at place i ends
 abbrev to : tie.At-loop Inv-loop μ-loop → ℕ
@@ -78,8 +78,8 @@ returns-2 : tie.Need-returns-2 Inv-loop μ-loop
 returns-2 c =
     let s = c .before in
     let ns = s .loop .numbers in
-    let last : s .loop .i ≡ 6 = omega arith in
-    let all = rw (last, numbers-end, append-nil, take-all 6 ns (omega arith)) at (s .loop .inv .3) in
+    let last : s .loop .i ≡ 7 = omega arith in
+    let all = rw (last, numbers-end, append-nil, take-all 7 ns (omega arith)) at (s .loop .inv .3) in
     sym all
 
 pub numbers-in-spec : {M : Type 1} → statement M
