@@ -136,8 +136,8 @@ module _ (t : Table) (e : Entry) where
     ranged = rw (train-id (e .id) .1 (r .id), starting-number (e .start) .1 (omega arith, r .start))
 
     -- whatever its figures, and it has some
-    consist-fits : (d : Decision) → ((k : Figures) → enterDecision t e (Given k) ≡ d) → step t (Enter e) ≡ carriedOut t d
-    consist-fits d q = go (figuresFor (t .settings) e) refl
+    whatever-figures : (d : Decision) → ((k : Figures) → enterDecision t e (Given k) ≡ d) → step t (Enter e) ≡ carriedOut t d
+    whatever-figures d q = go (figuresFor (t .settings) e) refl
       where
         go : (f : FiguresFound) → figuresFor (t .settings) e ≡ f → step t (Enter e) ≡ carriedOut t d
         go NoFigures f = absurd (no-figures-exactly (e .load) (e .length) .0 f (r .length .0, r .length .1, r .load .0, r .load .1))
@@ -145,22 +145,22 @@ module _ (t : Table) (e : Entry) where
 
     -- 5 "id on the line already"
     pub enter-5 : (i : ℕ) → placeOf t (e .id) ≡ some i → step t (Enter e) ≡ outcome (Refused OnLine) t
-    enter-5 i known = consist-fits _ (λ k. enter-known t e k ranged i known)
+    enter-5 i known = whatever-figures _ (λ k. enter-known t e k ranged i known)
 
     module _ (absent : placeOf t (e .id) ≡ none) where
       -- 6 "32 trains on the line"
       pub enter-6 : 32 ≤ t .count → step t (Enter e) ≡ outcome (Refused LineFull) t
-      enter-6 full = consist-fits _ (λ k. enter-full t e k ranged absent full)
+      enter-6 full = whatever-figures _ (λ k. enter-full t e k ranged absent full)
 
       module _ (free : t .count < 32) where
         -- 7 "entering head not in its range": "the head must be at least the length and at most the limit"
         pub enter-7 : (e .head < 6096000 * e .length) ⊎ (InLimit (limitAt t (t .count)) (e .head) → ⊥) → step t (Enter e) ≡ outcome (Refused BadHead) t
         unfolding stepsOf
-        enter-7 (inl short) = consist-fits _ (λ k. enter-short t e k ranged absent free short)
+        enter-7 (inl short) = whatever-figures _ (λ k. enter-short t e k ranged absent free short)
         enter-7 (inr far) =
             by-cases (decLe (6096000 * e .length) (e .head))
-            (λ long. consist-fits _ (λ k. enter-beyond t e k ranged absent free long (limit-beyond (limitAt t (t .count)) (e .head) far)))
-            (λ short. consist-fits _ (λ k. enter-short t e k ranged absent free (omega arith)))
+            (λ long. whatever-figures _ (λ k. enter-beyond t e k ranged absent free long (limit-beyond (limitAt t (t .count)) (e .head) far)))
+            (λ short. whatever-figures _ (λ k. enter-short t e k ranged absent free (omega arith)))
 
         -- "behind the last train, standing; end = head, order brake, level B, not held, and a starting request number for this stay"
         pub enter-accepted : (k : Figures) → Described (e .load) (e .length) k → 6096000 * e .length ≤ e .head → InLimit (limitAt t (t .count)) (e .head)

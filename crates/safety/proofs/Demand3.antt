@@ -1,4 +1,4 @@
--- Demand 3: after every list of calls on the table that an accepted opening made, the claim holds and the table agrees with it.
+-- Demand 3: after every list of requests on the table that an accepted opening made, the claim holds and the table agrees with it.
 -- Assumes nothing.
 use Prim.Native.Nat.{ℕ, zero, suc, _≤_}
 use mathlib.Core.Option.{Option, none, some, Option·map}
@@ -85,7 +85,7 @@ safe o ahead limit (x ∷ xs) e l =
     separate none e = end-first o limit x (l .0) e
     separate (some a) e = end-behind o limit x (l .0) a e
 
--- for every accepted opening and every list of calls on the table that it made
+-- for every accepted opening and every list of requests on the table that it made, by any callers
 pub demand-3 : (o : Opening) (t : Table) → openStep o ≡ outcome (Accepted Zeros) t → (rs : List Request) → Demand3 o t rs
 unfolding Claim
 demand-3 o t opened rs =

@@ -1,4 +1,5 @@
--- Repeats, over every list of calls: "the repeat of an accepted one in the same stay adds none".
+-- Repeats, over every list of requests: "the repeat of an accepted one in the same stay adds none". `step` is what a call comes to by a caller with
+-- the right; one without it leaves the table too (line/proofs/Rights: call-16).
 -- Assumes nothing.
 use Prim.Native.Nat.{ℕ, _≤_, _<_}
 use mathlib.Core.Bool.{true, false}
@@ -39,7 +40,7 @@ use Rattle.line.proofs.Stays.{Holds, Keeps, still-holds, sized-step, sized-requ
 use Rattle.safety.specs.History.{Event, history, after, isAccepted}
 use Rattle.safety.proofs.Calls.{agrees}
 
--- ---- what stays true over a list of calls
+-- ---- what stays true over a list of requests
 
 -- each request keeps it
 abbrev KeepsAll : (Train → Type 0) → ℕ → List Event → Type 0
@@ -140,7 +141,7 @@ unfolding after
 settings-after [] t = refl
 settings-after (r ∷ rs) t = settings-after rs (requested true t r .table) ∙ settings-request t r
 
--- ---- over every list of calls
+-- ---- over every list of requests
 
 -- on the line that an accepted opening made, after the calls `before`, the extension q of the train is called and accepted
 module _ (o : Opening) (t : Table) (opened : openStep o ≡ outcome (Accepted Zeros) t) (before : List Request) (id : ℕ) (q : Asked)
@@ -178,7 +179,7 @@ module _ (o : Opening) (t : Table) (opened : openStep o ≡ outcome (Accepted Ze
       let number = h .so .1 in
       record { place = h .place; found = h .found; so = (above, omega arith) }
 
-  -- whatever calls were made since, in the same stay
+  -- whatever was called since, in the same stay
   module _ (since : List Request) (stays : Stays id (history granted since)) where
     abbrev now : Table
     now = after granted since
