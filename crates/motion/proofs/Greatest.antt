@@ -1,6 +1,6 @@
--- The greatest number that passes a test: what it is, and how halving finds it.
+-- The greatest number that passes a test: what it is.
 -- Assumes nothing.
-use Prim.Native.Nat.{ℕ, zero, suc, _+_, _-_, _/_, _≤_, _<_}
+use Prim.Native.Nat.{ℕ, zero, suc, _≤_, _<_}
 use mathlib.Core.Bool.{Bool, true, false}
 use mathlib.Core.Logic.{by-cases}
 use mathlib.Core.Path.{_≡_, refl, sym, _∙_, ap, subst}
@@ -11,7 +11,6 @@ use Rattle.logic.proofs.Tests.{by-test, not-both}
 use Rattle.motion.specs.declared.Order.{Order}
 use Rattle.motion.specs.declared.Order.the-variants.{Drive, Brake}
 use Rattle.motion.specs.Orders.{greatest}
-use Rattle.ranges.specs.Ranges.{greatestTraction}
 
 -- ---- what the greatest is
 
@@ -96,66 +95,3 @@ module _ (passes passes′ : ℕ → Bool) (n n′ : ℕ) (le : n ≤ n′) wher
       → greatest passes n′ ≡ greatest passes′ n
   greatest-agree same none =
       greatest-only passes n′ (greatest passes′ n) (chosen-agree (greatest passes′ n) same none (greatest-chosen passes′ n))
-
--- ---- halving
-
--- every number below low passes, and none from high to n does
-pub record Bracket (passes : ℕ → Bool) (n low high : ℕ) : Type 0 where
-  pub ordered : low ≤ high
-  pub within : high ≤ n + 1
-  pub below : (d : ℕ) → d < low → passes d ≡ true
-  pub above : (d : ℕ) → high ≤ d → d ≤ n → passes d ≡ false
-
--- for a test that every number below a passing one passes
-module _ (passes : ℕ → Bool) (closed : (c d : ℕ) → c ≤ d → passes d ≡ true → passes c ≡ true) (n : ℕ) where
-  pub bracket-up : (low high mid : ℕ) → Bracket passes n low high → mid < high → passes mid ≡ true → Bracket passes n (mid + 1) high
-  bracket-up low high mid b h t =
-      record { ordered = omega arith; within = b .within; below = λ d p. closed d mid (omega arith) t; above = b .above }
-
-  pub bracket-down : (low high mid : ℕ) → Bracket passes n low high → low ≤ mid → mid < high → passes mid ≡ false → Bracket passes n low mid
-  bracket-down low high mid b g h f =
-      record {
-        ordered = g;
-        within = omega arith;
-        below = b .below;
-        above = λ d p q. by-test (passes d) (λ t. absurd (not-both (closed mid d p t) f)) (λ f. f);
-      }
-
-  -- and none passes where 0 does not
-  pub none-passes : passes 0 ≡ false → greatest passes n ≡ Brake
-  none-passes f = greatest-only passes n Brake (λ d q. by-test (passes d) (λ t. absurd (not-both (closed 0 d (omega arith) t) f)) (λ f. f))
-
--- where the two meet, the search is over
-pub bracket-found : (passes : ℕ → Bool) (n low high : ℕ) → Bracket passes n low high → high ≤ low → 0 < low → greatest passes n ≡ Drive (low - 1)
-bracket-found passes n low high b h some =
-    greatest-only passes n (Drive (low - 1))
-    (record { within = omega arith; itself = b .below (low - 1) (omega arith); above = λ d p q. b .above d (omega arith) q })
-
--- number of binary digits; the first argument bounds the recursion
-digitsWithin : ℕ → ℕ → ℕ
-digitsWithin zero n = 0
-digitsWithin (suc f) zero = 0
-digitsWithin (suc f) (suc n) = suc (digitsWithin f (suc n / 2))
-
-pub digits : ℕ → ℕ
-digits n = digitsWithin n n
-
-digits-mono : (f g m n : ℕ) → m ≤ n → m ≤ f → n ≤ g → digitsWithin f m ≤ digitsWithin g n
-unfolding digitsWithin
-digits-mono zero g m n h p q = omega arith
-digits-mono (suc f) g zero n h p q = omega arith
-digits-mono (suc f) zero (suc m) n h p q = absurd (omega arith)
-digits-mono (suc f) (suc g) (suc m) zero h p q = absurd (omega arith)
-digits-mono (suc f) (suc g) (suc m) (suc n) h p q =
-    let less = digits-mono f g (suc m / 2) (suc n / 2) (omega arith) (omega arith) (omega arith) in omega arith
-
--- half has a digit less
-pub half-digits : (m n : ℕ) → 0 < n → m ≤ n / 2 → digits m < digits n
-unfolding digits digitsWithin
-half-digits m zero h p = absurd (omega arith)
-half-digits m (suc n) h p = let less = digits-mono m n m (suc n / 2) p (le-refl m) (omega arith) in omega arith
-
--- so halving what lies between cap 0 and another cap takes 17 trials at most
-pub trials-most : (high : ℕ) → high ≤ greatestTraction → digits (high - 1) ≤ 17
-unfolding digits digitsWithin
-trials-most high h = digits-mono (high - 1) 99999 (high - 1) 99999 (omega arith) (le-refl _) (le-refl _)

@@ -1,6 +1,6 @@
 -- Laws of orders: the cap that fits, and what an accepted report keeps.
 -- Assumes nothing.
-use Prim.Native.Nat.{ℕ, _+_, _≤_, _<_}
+use Prim.Native.Nat.{ℕ, _≤_, _<_}
 use mathlib.Core.Bool.{true, false}
 use mathlib.Core.Logic.{_⊎_, inl, inr}
 use mathlib.Core.Path.{_≡_, refl, sym}
@@ -15,14 +15,14 @@ use Rattle.motion.specs.declared.Limits.{Limits}
 use Rattle.motion.specs.declared.Order.{Order}
 use Rattle.motion.specs.declared.Order.the-variants.{Drive, Brake}
 use Rattle.motion.specs.Motion.{driveTravel, driveSpeed, releasedLevel}
-use Rattle.motion.specs.Orders.{orderCap, worstCase, stoppingPlace, reach, capFits, keepsGoal, CapsAllowed, greatest, orderFor}
+use Rattle.motion.specs.Orders.{orderCap, worstCase, stoppingPlace, reach, capFits, keepsGoal, orderFor}
 use Rattle.ranges.specs.Ranges.{greatestLineEnd, greatestCeiling, greatestTraction}
 use Rattle.motion.specs.Bounds.{Bounded}
 use Rattle.motion.proofs.Cycles.{level-le}
 use Rattle.motion.proofs.OrderSentences.{too-fast, fits, fails}
 use Rattle.motion.proofs.Bounds.{speedBound, bound-ceiling, bound-brake, bound-fits}
 use Rattle.motion.proofs.Domination.{NoWorse, no-worse-drive, no-worse-stop, brake-keeps}
-use Rattle.motion.proofs.Greatest.{IsGreatest, greatest-is, greatest-only, greatest-agree}
+use Rattle.motion.proofs.Greatest.{IsGreatest, greatest-is}
 
 -- ---- the cap that fits
 
@@ -48,20 +48,6 @@ module _ (k : Figures) (l : Limits) (goal : ℕ) (m : Motion) where
   pub fits-under : (c : ℕ) → driveSpeed k (m .speed) c ≤ l .ceiling → capFits k l goal m c ≡ leb (reach k m (Drive c)) goal
   unfolding capFits
   fits-under c h = rw (le-leb (driveSpeed k (m .speed) c) (l .ceiling) h)
-
-  -- no cap is allowed: brake
-  pub none-allowed : CapsAllowed k l (m .speed) 0 → orderFor k l goal m ≡ Brake
-  unfolding orderFor
-  none-allowed a = greatest-only (capFits k l goal m) (l .traction) Brake (λ d q. fits-over d (a .exceed d (omega arith) q))
-
-  -- some are: the greatest of these that keeps the goal
-  pub some-allowed : (high : ℕ) → CapsAllowed k l (m .speed) (high + 1) → orderFor k l goal m ≡ greatest (keepsGoal k goal m) high
-  unfolding orderFor
-  some-allowed high a =
-      let within = a .within in
-      greatest-agree (capFits k l goal m) (keepsGoal k goal m) high (l .traction) (omega arith)
-      (λ d q. fits-under d (a .keep d (omega arith)))
-      (λ d p q. fits-over d (a .exceed d (omega arith) q))
 
 -- ---- an accepted report
 

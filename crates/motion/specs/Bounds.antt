@@ -1,14 +1,11 @@
 -- The bounds within which motion is worked out, so that no sum overflows 64 bits. Document 01 has the ranges only.
-use Prim.Native.Nat.{ℕ, _+_, _≤_, _<_}
+use Prim.Native.Nat.{ℕ, _+_, _≤_}
 use mathlib.Core.Bool.{Bool, _&&_}
-use mathlib.Core.Path.{_≡_}
 use lib.Dec.{leb}
 use Rattle.ranges.specs.Ranges.{greatestLineEnd, greatestCeiling, greatestTraction}
 use Rattle.brake.specs.declared.Figures.{Figures}
 use Rattle.brake.specs.Consist.{Sound, greatestFull}
 use Rattle.motion.specs.declared.Motion.{Motion}
-use Rattle.motion.specs.declared.Order.the-variants.{Drive}
-use Rattle.motion.specs.Orders.{reach}
 
 -- No report leaves a higher speed: on flat track the ceiling holds while braking too.
 abbrev pub greatestSpeed : ℕ
@@ -50,11 +47,3 @@ pub record Bounded (k : Figures) (m : Motion) (c : ℕ) : Type 0 where
   pub speed : m .speed ≤ greatestSpeed
   pub level : m .level ≤ k .full
   pub cap : c ≤ greatestTraction
-
--- a search between cap 0, whose reach keeps the goal, and the cap high, whose reach does not
-pub record Halving (k : Figures) (goal : ℕ) (m : Motion) (high least : ℕ) : Type 0 where
-  pub bounded : Bounded k m high
-  pub some : 0 < high
-  pub known : least ≡ reach k m (Drive 0)
-  pub kept : least ≤ goal
-  pub beyond : goal < reach k m (Drive high)

@@ -1,6 +1,6 @@
 -- Document 01, "Orders": what an order o allows a train with figures k and motion m, and which order it gets on a line with
 -- limits l.
-use Prim.Native.Nat.{ℕ, zero, suc, _+_, _≤_, _<_}
+use Prim.Native.Nat.{ℕ, zero, suc, _+_}
 use mathlib.Core.Bool.{Bool, true, false, _&&_}
 use lib.Dec.{leb}
 use Rattle.brake.specs.declared.Figures.{Figures}
@@ -55,11 +55,3 @@ greatest passes (suc n) = elim (passes (suc n)) [ true ↦ Drive (suc n) | false
 -- the order that the goal allows
 unfoldable pub orderFor : Figures → Limits → ℕ → Motion → Order
 orderFor k l goal m = greatest (capFits k l goal m) (l .traction)
-
--- ---- words of inner contracts
-
--- of the caps from 0 to A, those below n and no others keep v + c at most V
-pub record CapsAllowed (k : Figures) (l : Limits) (v n : ℕ) : Type 0 where
-  pub within : n ≤ l .traction + 1
-  pub keep : (c : ℕ) → c < n → driveSpeed k v c ≤ l .ceiling
-  pub exceed : (c : ℕ) → n ≤ c → c ≤ l .traction → l .ceiling < driveSpeed k v c

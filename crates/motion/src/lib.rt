@@ -1,8 +1,9 @@
-// Worst-case motion and the order of one train: document 01, "Worst-case motion" and "Orders".
+// Worst-case motion of one train, and where an order lets it stop: document 01, "Worst-case motion" and "Orders". The order itself is
+// worked out in `caps`.
 ghost use mathlib.Core.Path.{_≡_};
 ghost use Rattle.motion.specs.Motion.{brakeTravel, brakeSpeed, nextLevel, driveTravel, driveSpeed, stands, stoppingDistance};
-ghost use Rattle.motion.specs.Orders.{orderNumber, orderCap, worstCase, reach, offer, CapsAllowed, keepsGoal, greatest, orderFor};
-ghost use Rattle.motion.specs.Bounds.{Level, Braking, Driving, Bounded, Halving, inBounds};
+ghost use Rattle.motion.specs.Orders.{orderNumber, orderCap, worstCase, reach, offer};
+ghost use Rattle.motion.specs.Bounds.{Level, Braking, Driving, Bounded, inBounds};
 use brake::Figures;
 use brake::GREATEST_FULL;
 use ranges::GREATEST_CEILING;
@@ -120,7 +121,7 @@ fn drive_travel(k: Figures, v: u64, c: u64) -> u64
 }
 
 // Speed at the end of a driven cycle with cap c.
-fn drive_speed(k: Figures, v: u64, c: u64) -> u64
+pub fn drive_speed(k: Figures, v: u64, c: u64) -> u64
     requires { ⌜ Driving k v c ⌝ }
     ensures { λ r. ⌜ r ≡ driveSpeed k v c ⌝ }
 {
@@ -201,76 +202,4 @@ pub fn offer_of(k: Figures, m: Motion, o: Order) -> Offer
         order: o,
         reach: reach_of(k, m, o),
     }
-}
-
-// How many caps, counted from 0, the engine and the ceiling allow at speed v. Each is judged with its own gain.
-fn caps_allowed(k: Figures, l: Limits, v: u64) -> u64
-    requires { ⌜ Driving k v (l .traction) ⌝ }
-    ensures { λ r. ⌜ CapsAllowed k l v r ⌝ }
-{
-    let ceiling = l.ceiling;
-    let traction = l.traction;
-    let least = drive_speed(k, v, 0);
-    if ceiling < least {
-        return 0;
-    }
-    let gain = ceiling - least;
-    if traction < gain {
-        return traction + 1;
-    }
-    gain + 1
-}
-
-// The greatest cap below high that keeps the goal, with its reach: cap 0 does, and its reach is least; the cap high does not.
-// Every cap below one that keeps the goal keeps it too, so halving finds it: the caps below low do, those from top on do not.
-// The reach of the last cap below low is kept, so none is worked out twice.
-// Each turn takes a binary digit off top - low: 17 trials at most, at A = 100,000.
-fn halve(k: Figures, goal: u64, m: Motion, high: u64, least: u64) -> Offer
-    requires { ⌜ Halving k goal m high least ⌝ }
-    ensures { λ r. ⌜ r ≡ offer k m (greatest (keepsGoal k goal m) high) ⌝ }
-{
-    let mut low: u64 = 1;
-    let mut top = high;
-    let mut kept = least;
-    while low < top {
-        let mid = low + (top - low) / 2;
-        let tried = reach_of(k, m, Order::Drive(mid));
-        if tried <= goal {
-            low = mid + 1;
-            kept = tried;
-        } else {
-            top = mid;
-        }
-    }
-    Offer {
-        order: Order::Drive(low - 1),
-        reach: kept,
-    }
-}
-
-// The order that the goal allows, with its reach: drive with the greatest cap that fits, or brake where none does.
-// The greatest cap allowed is tried first: on free track it fits. Then cap 0, if that is another: where it does not fit, none
-// does. So 19 trials at most, at A = 100,000: these two, and 17 to halve what lies between them.
-pub fn order_for(k: Figures, l: Limits, goal: u64, m: Motion) -> Offer
-    requires { ⌜ Bounded k m (l .traction) ⌝ }
-    ensures { λ r. ⌜ r ≡ offer k m (orderFor k l goal m) ⌝ }
-{
-    let v = m.speed;
-    let allowed = caps_allowed(k, l, v);
-    if allowed == 0 {
-        return offer_of(k, m, Order::Brake);
-    }
-    let most = allowed - 1;
-    let best = offer_of(k, m, Order::Drive(most));
-    if best.reach <= goal {
-        return best;
-    }
-    if most == 0 {
-        return offer_of(k, m, Order::Brake);
-    }
-    let least = reach_of(k, m, Order::Drive(0));
-    if goal < least {
-        return offer_of(k, m, Order::Brake);
-    }
-    halve(k, goal, m, most, least)
 }

@@ -320,7 +320,7 @@ fn order_after(s: Settings, x: Train, m: Motion) -> Offer
     }
     let limits = s.limits;
     let a = x.authority;
-    motion::order_for(k, limits, a.end, m)
+    caps::order_for(k, limits, a.end, m)
 }
 
 // The record after a report that is allowed, and its reach, which the search for the order has found.

@@ -1,4 +1,4 @@
--- `motion::order_for` meets its contract: where the greatest cap allowed keeps the goal it is the order, where cap 0 does not none
+-- `caps::order_for` meets its contract: where the greatest cap allowed keeps the goal it is the order, where cap 0 does not none
 -- is, and otherwise halving finds it.
 -- Assumes nothing.
 use Prim.Native.Nat.{ℕ, _-_, _<_}
@@ -7,14 +7,16 @@ use mathlib.Core.Path.{_≡_, ap, subst, _∙_}
 use native.Mathlib.Omega.{arith}
 use borrow.Author.Needs.{needs}
 use borrow.Author.Tests.{le-leb, lt-leb}
 use Rattle.motion.specs.declared.Offer.{Offer}
 use Rattle.motion.specs.declared.Order.the-variants.{Drive, Brake}
-use Rattle.motion.specs.Orders.{reach, keepsGoal, CapsAllowed, greatest, orderFor}
+use Rattle.motion.specs.Orders.{reach, keepsGoal, greatest, orderFor}
+use Rattle.caps.specs.Search.{CapsAllowed}
 use Rattle.motion.proofs.Bounds.{bounded-cap}
-use Rattle.motion.proofs.Greatest.{greatest-here, none-passes}
-use Rattle.motion.proofs.Orders.{goal-below, none-allowed, some-allowed}
-use Rattle.motion.proofs.order_for.Statement.{statement}
-use Rattle.motion.proofs.order_for.Tie as tie
+use Rattle.motion.proofs.Greatest.{greatest-here}
+use Rattle.motion.proofs.Orders.{goal-below}
+use Rattle.caps.proofs.Search.{none-passes, none-allowed, some-allowed}
+use Rattle.caps.proofs.order_for.Statement.{statement}
+use Rattle.caps.proofs.order_for.Tie as tie
 
 returns : tie.Need-returns
 returns c =

@@ -1,10 +1,10 @@
--- `motion::caps_allowed` meets its contract.
+-- `caps::caps_allowed` meets its contract.
 -- Assumes nothing.
 use native.Mathlib.Omega.{arith}
 use borrow.Author.Needs.{needs}
 use Rattle.motion.proofs.Cycles.{drive-speed-gain}
-use Rattle.motion.proofs.caps_allowed.Statement.{statement}
-use Rattle.motion.proofs.caps_allowed.Tie as tie
+use Rattle.caps.proofs.caps_allowed.Statement.{statement}
+use Rattle.caps.proofs.caps_allowed.Tie as tie
 
 returns : tie.Need-returns
 returns c =

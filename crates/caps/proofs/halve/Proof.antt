@@ -1,5 +1,5 @@
--- `motion::halve` meets its contract: the caps below low keep the goal, those from top on do not, and the two close in.
--- The measure is the number of binary digits of their distance: at most 17 trials (Greatest: trials-most).
+-- `caps::halve` meets its contract: the caps below low keep the goal, those from top on do not, and the two close in.
+-- The measure is the number of binary digits of their distance: at most 17 trials (Search: trials-most).
 -- Assumes nothing.
 use Prim.Native.Nat.{ℕ, _+_, _-_, _/_, _≤_, _<_}
 use mathlib.Core.Bool.{true}
@@ -8,14 +8,14 @@ use native.Mathlib.Nat.{le-trans}
 use native.Mathlib.Omega.{arith}
 use borrow.Author.Tests.{le-leb, lt-leb}
 use Rattle.brake.specs.declared.Figures.{Figures}
 use Rattle.motion.specs.declared.Motion.{Motion}
 use Rattle.motion.specs.declared.Order.the-variants.{Drive}
 use Rattle.motion.specs.Orders.{reach, keepsGoal}
 use Rattle.motion.proofs.Bounds.{bounded-cap}
-use Rattle.motion.proofs.Greatest.{Bracket, bracket-up, bracket-down, bracket-found, digits, half-digits}
 use Rattle.motion.proofs.Orders.{reach-mono, goal-below}
-use Rattle.motion.proofs.halve.Statement.{statement}
-use Rattle.motion.proofs.halve.Tie as tie
+use Rattle.caps.proofs.Search.{Bracket, bracket-up, bracket-down, bracket-found, digits, half-digits}
+use Rattle.caps.proofs.halve.Statement.{statement}
+use Rattle.caps.proofs.halve.Tie as tie
 
 record Closing (k : Figures) (goal : ℕ) (m : Motion) (high low top kept : ℕ) : Type 0 where
   bracket : Bracket (keepsGoal k goal m) high low top
