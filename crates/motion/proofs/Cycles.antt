@@ -8,7 +8,7 @@ use native.Mathlib.Decide.{decLe}
 use native.Mathlib.Nat.{mul-le-mul, mul-le-mul-left, le-trans}
 use native.Mathlib.Omega.{arith}
 use lib.Dec.{leb}
-use borrow.Author.Tests.{le-leb, lt-leb, eqb-true, eq-eqb, ne-eqb}
+use borrow.Author.Tests.{le-leb, lt-leb, leb-false, eqb-true, eq-eqb, ne-eqb}
 use Rattle.brake.specs.declared.Figures.{Figures}
 use Rattle.logic.specs.Rounding.{ceilDiv}
 use Rattle.logic.proofs.Rounding.{ceil-le, ceil-mono, rounded-once}
@@ -104,3 +104,10 @@ last-stands k v b =
     by-cases (decLe v b)
     (λ last. eq-eqb (v - b) 0 (omega arith) ∙ sym (le-leb v b last))
     (λ on. ne-eqb (v - b) 0 (omega arith) ∙ sym (lt-leb v b (omega arith)))
+
+-- a cycle that is not the last goes as far as its two speeds together
+pub travel-speeds : (k : Figures) (v b : ℕ) → stands k (brakeSpeed k v b) (nextLevel k b) ≡ false → brakeTravel k v b ≡ v + brakeSpeed k v b
+travel-speeds k v b e =
+    let faster = leb-false v b (sym (last-stands k v b) ∙ e) in
+    let on = braked-on k v b (omega arith) in
+    omega arith

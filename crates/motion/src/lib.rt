@@ -1,6 +1,7 @@
 // Worst-case motion of one train, and where an order lets it stop: document 01, "Worst-case motion" and "Orders". The order itself is
 // worked out in `caps`.
 ghost use mathlib.Core.Path.{_≡_};
+ghost use Prim.Native.Nat.{_+_, _*_, _^_, _≤_, _<_};
 ghost use Rattle.motion.specs.Motion.{brakeTravel, brakeSpeed, nextLevel, driveTravel, driveSpeed, stands, stoppingDistance};
 ghost use Rattle.motion.specs.Orders.{orderNumber, orderCap, worstCase, reach, offer};
 ghost use Rattle.motion.specs.Bounds.{Level, Braking, Driving, Bounded, inBounds};
@@ -78,7 +79,7 @@ pub fn in_bounds(k: Figures, m: Motion, c: u64) -> bool
 }
 
 // Travel in a braked cycle at speed v and level b. The last cycle is rounded up: never shorter than the train rolls.
-fn brake_travel(k: Figures, v: u64, b: u64) -> u64
+pub fn brake_travel(k: Figures, v: u64, b: u64) -> u64
     requires { ⌜ Braking k v b ⌝ }
     ensures { λ r. ⌜ r ≡ brakeTravel k v b ⌝ }
 {
@@ -89,7 +90,7 @@ fn brake_travel(k: Figures, v: u64, b: u64) -> u64
 }
 
 // Speed at the end of a braked cycle.
-fn brake_speed(k: Figures, v: u64, b: u64) -> u64
+pub fn brake_speed(k: Figures, v: u64, b: u64) -> u64
     requires { ⌜ Braking k v b ⌝ }
     ensures { λ r. ⌜ r ≡ brakeSpeed k v b ⌝ }
 {
@@ -136,27 +137,56 @@ pub fn standing(k: Figures, v: u64, b: u64) -> bool
 }
 
 // Whether the braked cycle at speed v and level b is the last: the train stands at its end.
-fn last_cycle(k: Figures, v: u64, b: u64) -> bool
+pub fn last_cycle(k: Figures, v: u64, b: u64) -> bool
     ensures { λ r. ⌜ r ≡ stands k (brakeSpeed k v b) (nextLevel k b) ⌝ }
 {
     v <= b
 }
 
-// Stopping distance (stop travel) from speed v and level b. The last cycle comes after the loop, so that no cycle in it can
-// be the rounded one. From speed 0 the last cycle is the only one, and goes nowhere.
-fn stopping_distance(k: Figures, v: u64, b: u64) -> u64
+// How far braked cycles went that brought a train from speed v to this speed, none of them the last: each as far as the speeds at its
+// start and at its end together. speeds is the sum of the speeds at their starts.
+pub fn travelled(v: u64, speeds: u64, speed: u64) -> u64
+    requires { ⌜ (v ≤ 2 * speeds + speed) × (2 * speeds + speed < 2 ^ 64) ⌝ }
+    ensures { λ r. ⌜ r + v ≡ 2 * speeds + speed ⌝ }
+{
+    2 * speeds + speed - v
+}
+
+// Stopping distance (stop travel) from speed v under full brake, which stays full. The last cycle comes after the loop, so that no
+// cycle in it can be the rounded one. From speed 0 the last cycle is the only one, and goes nowhere.
+fn full_stop(k: Figures, v: u64) -> u64
+    requires { ⌜ Braking k v (k .full) ⌝ }
+    ensures { λ r. ⌜ r ≡ stoppingDistance k v (k .full) ⌝ }
+{
+    let full = k.full;
+    let mut speeds: u64 = 0;
+    let mut speed = v;
+    while !last_cycle(k, speed, full) {
+        speeds += speed;
+        speed = brake_speed(k, speed, full);
+    }
+    travelled(v, speeds, speed) + brake_travel(k, speed, full)
+}
+
+// Stopping distance (stop travel) from speed v and level b: the level grows by j until the brake is full.
+pub fn stopping_distance(k: Figures, v: u64, b: u64) -> u64
     requires { ⌜ Braking k v b ⌝ }
     ensures { λ r. ⌜ r ≡ stoppingDistance k v b ⌝ }
 {
-    let mut distance: u64 = 0;
+    let full = k.full;
+    let growth = k.growth;
+    let mut speeds: u64 = 0;
     let mut speed = v;
     let mut level = b;
     while !last_cycle(k, speed, level) {
-        distance += brake_travel(k, speed, level);
+        speeds += speed;
         speed = brake_speed(k, speed, level);
-        level = next_level(k, level);
+        level += growth;
+        if full <= level {
+            return travelled(v, speeds, speed) + full_stop(k, speed);
+        }
     }
-    distance + brake_travel(k, speed, level)
+    travelled(v, speeds, speed) + brake_travel(k, speed, level)
 }
 
 // The worst case of an order: head, speed and level at the end of the coming cycle.

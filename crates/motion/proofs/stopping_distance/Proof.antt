@@ -1,4 +1,5 @@
--- `motion::stopping_distance` meets its contract: what is summed up, with the stopping distance that is left, is the one at entry.
+-- `motion::stopping_distance` meets its contract: while the level grows the run is summed up by its speeds, and what is left from full brake
+-- on is `full_stop`'s.
 -- Assumes nothing.
 use Prim.Native.Nat.{ℕ, _+_}
 use mathlib.Core.Bool.{false}
@@ -7,26 +8,23 @@ use native.Mathlib.Omega.{arith}
 use borrow.Author.Needs.{needs}
 use borrow.Author.Tests.{not-true, not-false}
 use Rattle.brake.specs.declared.Figures.{Figures}
-use Rattle.motion.specs.Motion.{brakeTravel, stands, enoughCycles, stoppingDistance}
-use Rattle.motion.specs.Bounds.{Braking}
+use Rattle.motion.specs.Motion.{brakeSpeed, nextLevel, stands, enoughCycles, stoppingDistance}
+use Rattle.motion.proofs.Sentences.{level-grows, level-full}
 use Rattle.motion.proofs.Cycles.{moved-before}
-use Rattle.motion.proofs.Runs.{fewer, stop-stands, stop-cycle}
-use Rattle.motion.proofs.Bounds.{braking-on, stop-fits}
+use Rattle.motion.proofs.Runs.{fewer}
+use Rattle.motion.proofs.Bounds.{stop-fits}
+use Rattle.motion.proofs.Summing.{Summed, summed-none, summed-on, summed-gone, summed-rest, summed-last}
 use Rattle.motion.proofs.stopping_distance.Statement.{statement}
 use Rattle.motion.proofs.stopping_distance.Tie as tie
 
-record Left (k : Figures) (v b distance speed level : ℕ) : Type 0 where
-  left : distance + stoppingDistance k speed level ≡ stoppingDistance k v b
-  braking : Braking k speed level
-
 abbrev Inv-loop : tie.InvT-loop
-Inv-loop k v b distance₀ speed₀ level₀ distance speed level = Left k v b distance speed level
+Inv-loop k v b full growth speeds₀ speed₀ level₀ speeds speed level = Summed k v b speeds speed level
 
 abbrev μ-loop : tie.MeasureT-loop
-μ-loop k v b distance₀ speed₀ level₀ distance speed level = enoughCycles k speed level
+μ-loop k v b full growth speeds₀ speed₀ level₀ speeds speed level = enoughCycles k speed level
 
 loop-holds : tie.Need-loop-holds Inv-loop μ-loop
-loop-holds c = record { left = omega arith; braking = c .pre }
+loop-holds c = summed-none (c .pre)
 
 -- in the loop's body
 abbrev K : tie.Then1 Inv-loop μ-loop → Figures
@@ -38,63 +36,77 @@ S c = c .before .before .loop .speed
 abbrev L : tie.Then1 Inv-loop μ-loop → ℕ
 L c = c .before .before .loop .level
 
-braked : (c : tie.Then1 Inv-loop μ-loop) → Braking (K c) (S c) (L c)
-braked c = c .before .before .loop .inv .braking
+moves : (c : tie.Then1 Inv-loop μ-loop) → stands (K c) (brakeSpeed (K c) (S c) (L c)) (nextLevel (K c) (L c)) ≡ false
+moves c = sym (c .before .last-cycle .ensures) ∙ not-true _ (c .if1 .taken)
 
-moves : (c : tie.Then1 Inv-loop μ-loop) → stands (K c) (S c) (L c) ≡ false
-moves c = moved-before _ _ _ (sym (c .before .last-cycle .ensures) ∙ not-true _ (c .if1 .taken))
+next : (c : tie.Then1 Inv-loop μ-loop) → let a = c .before .before .before .args in
+    Summed (K c) (a .v) (a .b) (c .before .before .loop .speeds + S c) (brakeSpeed (K c) (S c) (L c)) (nextLevel (K c) (L c))
+next c = summed-on (c .before .before .loop .inv) (moves c)
 
-brake-travel-requires : tie.Need-brake-travel-requires Inv-loop μ-loop
-brake-travel-requires c κs = braked c
-
-add-distance : tie.Need-add-distance Inv-loop μ-loop
-add-distance c =
-    let t = c .before in
-    let start = t .before .before .before in
-    let cycle = stop-cycle (K t) (S t) (L t) (braked t .figures) in
-    let fits = stop-fits (K t) (start .args .v) (start .args .b) (start .pre) in
-    omega (arith, c .brake-travel .ensures, t .before .before .loop .inv .left)
+add-speeds : tie.Need-add-speeds Inv-loop μ-loop
+add-speeds c = let gone = summed-gone (next c) in omega arith
 
 brake-speed-requires : tie.Need-brake-speed-requires Inv-loop μ-loop
-brake-speed-requires c κs = braked (c .before)
+brake-speed-requires c κs = c .before .before .loop .inv .here
 
-next-level-requires : tie.Need-next-level-requires Inv-loop μ-loop
-next-level-requires c κs = let b = braked (c .before .before) in record { figures = b .figures; level = b .level }
+add-level : tie.Need-add-level Inv-loop μ-loop
+add-level c = let here = c .before .before .before .loop .inv .here in omega (arith, here .level, here .figures .growth-within, here .figures .full-within)
+
+-- the brake is full
+full : (c : tie.Then2 Inv-loop μ-loop) → let t = c .before .before in let a = t .before .before .before .args in
+    Summed (K t) (a .v) (a .b) (t .before .before .loop .speeds + S t) (c .before .brake-speed .result) (K t .full)
+full c =
+    let t = c .before .before in
+    rw (c .before .brake-speed .ensures) (rw (level-full (K t) (L t) (c .if2 .taken)) at (next t))
+
+travelled-requires : tie.Need-travelled-requires Inv-loop μ-loop
+travelled-requires c κs = summed-gone (full c)
+
+full-stop-requires : tie.Need-full-stop-requires Inv-loop μ-loop
+full-stop-requires c κs = full (c .before) .here
+
+all-full : (c : tie.After-full-stop Inv-loop μ-loop) → let a = c .before .before .before .before .before .before .before .args in
+    c .before .travelled .result + c .full-stop .result ≡ stoppingDistance (a .k) (a .v) (a .b)
+all-full c = rw (c .full-stop .ensures) (summed-rest (full (c .before .before)) _ (c .before .travelled .ensures))
+
+add-result : tie.Need-add-result Inv-loop μ-loop
+add-result c = omega (arith, all-full c, stop-fits _ _ _ (c .before .before .before .before .before .before .before .pre))
+
+returns : tie.Need-returns Inv-loop μ-loop
+returns c = all-full c
+
+-- it still grows
+grows : (c : tie.Else2 Inv-loop μ-loop) → let t = c .before .before in nextLevel (K t) (L t) ≡ L t + K t .growth
+grows c = let t = c .before .before in level-grows (K t) (L t) (omega (arith, c .if2 .left))
 
 loop-less : tie.Need-loop-less Inv-loop μ-loop
 loop-less c =
-    let t = c .before .before .before in
-    rw (c .before .brake-speed .ensures, c .next-level .ensures) (fewer (K t) (S t) (L t) (braked t .figures) (moves t))
+    let t = c .before .before in
+    let less = fewer (K t) (S t) (L t) (t .before .before .loop .inv .here .figures) (moved-before _ _ _ (moves t)) in
+    rw (c .before .brake-speed .ensures) (rw (grows c) at less)
 
 loop-again : tie.Need-loop-again Inv-loop μ-loop
-loop-again c =
-    let t = c .before .before .before in
-    rw (c .before .brake-speed .ensures, c .next-level .ensures, c .before .before .brake-travel .ensures)
-    (let cycle = stop-cycle (K t) (S t) (L t) (braked t .figures) in
-    record { left = omega (arith, t .before .before .loop .inv .left); braking = braking-on _ _ _ (braked t) })
+loop-again c = rw (c .before .brake-speed .ensures) (rw (grows c) at (next (c .before .before)))
 
 -- after the loop comes the last cycle
-brake-travel-requires-2 : tie.Need-brake-travel-requires-2 Inv-loop μ-loop
-brake-travel-requires-2 c κs = c .before .before .loop .inv .braking
+travelled-requires-2 : tie.Need-travelled-requires-2 Inv-loop μ-loop
+travelled-requires-2 c κs = summed-gone (c .before .before .loop .inv)
 
--- with it all is summed up
-last : (c : tie.Else1 Inv-loop μ-loop) → let a = c .before .before .before .args in let l = c .before .before .loop in
-    l .distance + brakeTravel (a .k) (l .speed) (l .level) ≡ stoppingDistance (a .k) (a .v) (a .b)
-last c =
-    let l = c .before .before .loop in
-    let k = c .before .before .before .args .k in
-    let cycle = stop-cycle k (l .speed) (l .level) (l .inv .braking .figures) in
-    let stopped = stop-stands _ _ _ (sym (c .before .last-cycle .ensures) ∙ not-false _ (c .if1 .left)) in
-    omega (arith, l .inv .left)
+brake-travel-requires : tie.Need-brake-travel-requires Inv-loop μ-loop
+brake-travel-requires c κs = c .before .before .before .loop .inv .here
 
-add-result : tie.Need-add-result Inv-loop μ-loop
-add-result c =
-    let start = c .before .before .before .before in
-    let fits = stop-fits (start .args .k) (start .args .v) (start .args .b) (start .pre) in
-    omega (arith, c .brake-travel2 .ensures, last (c .before))
+all : (c : tie.After-brake-travel Inv-loop μ-loop) → let a = c .before .before .before .before .before .args in
+    c .before .travelled2 .result + c .brake-travel .result ≡ stoppingDistance (a .k) (a .v) (a .b)
+all c =
+    let done = c .before .before in
+    rw (c .brake-travel .ensures)
+    (summed-last (done .before .before .loop .inv) _ (c .before .travelled2 .ensures) (sym (done .before .last-cycle .ensures) ∙ not-false _ (done .if1 .left)))
 
-returns : tie.Need-returns Inv-loop μ-loop
-returns c = rw (c .brake-travel2 .ensures) (last (c .before))
+add-result-2 : tie.Need-add-result-2 Inv-loop μ-loop
+add-result-2 c = omega (arith, all c, stop-fits _ _ _ (c .before .before .before .before .before .pre))
+
+returns-2 : tie.Need-returns-2 Inv-loop μ-loop
+returns-2 c = all c
 
 pub stopping-distance-spec : {M : Type 1} → statement M
 stopping-distance-spec =
@@ -104,12 +116,16 @@ stopping-distance-spec =
     μ-loop
     loop-holds
     (λ c κs. search needs)
-    brake-travel-requires
-    add-distance
+    add-speeds
     brake-speed-requires
-    next-level-requires
+    add-level
+    travelled-requires
+    full-stop-requires
+    add-result
+    returns
     loop-less
     loop-again
-    brake-travel-requires-2
-    add-result
-    returns)
+    travelled-requires-2
+    brake-travel-requires
+    add-result-2
+    returns-2)
