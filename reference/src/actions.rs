@@ -4,6 +4,7 @@
 use crate::brake::{FEET_PER_ENTRY, LAST_ENTRY_FEET, LONGEST_FEET, STEPS_PER_FOOT};
 use crate::call::{Call, Entry};
 use crate::line::{Line, LAST_ID, LAST_NUMBER};
+use crate::motion::{Motion, Order};
 use crate::rights::YARD;
 use crate::scene::Scene;
 use crate::train::Train;
@@ -59,6 +60,57 @@ impl Scene {
         };
         let reports = self.random.between(1, 450);
         self.run_at_worst(index, reports);
+    }
+
+    /// Reports of one train, all of them at a stand, or after it has come to some
+    /// speed. Before each its end is set for a cap that fits then.
+    pub fn search_caps(&mut self) {
+        let Some(settings) = self.line().map(Line::settings) else {
+            return;
+        };
+        let Some((index, _)) = self.pick() else {
+            return self.let_in();
+        };
+        let stands = self.random.once_in(4);
+        if !stands {
+            let full_speed = settings.ceiling / settings.traction + 1;
+            let reports = self.random.below(full_speed.min(400));
+            self.run_at_worst(index, reports);
+        }
+        for _ in 0..self.random.between(1, 200) {
+            let Some(train) = self.train(index).filter(|train| !train.held) else {
+                return;
+            };
+            let mut next = self.worst(&train);
+            if stands || train.penalty {
+                next.speed = 0;
+            } else if next.speed >= settings.ceiling {
+                next.speed = self.random.below(settings.ceiling);
+            }
+            let highest = settings.traction.min(settings.ceiling - next.speed);
+            self.search_cap(&train, next, highest);
+        }
+    }
+
+    /// A report after the end was set to the reach of a cap up to the highest, or
+    /// one step short of it.
+    fn search_cap(&mut self, train: &Train, next: Motion, highest: u64) {
+        let cap = match self.random.below(6) {
+            0 => self.random.below(2),
+            1 => highest - self.random.below(2),
+            2 => self.random.scaled(highest),
+            _ => self.random.between(0, highest),
+        };
+        // Short of cap 0 the train would brake, and lose its speed.
+        let short = u64::from(cap > 0) * self.random.below(2);
+        let end = next.reach(Order::Drive(cap), train.brake) - short;
+        let id = train.id;
+        if end > train.end {
+            self.extend(train, train.number + 1, end - train.end);
+        } else {
+            self.call(Call::CallBack { id, place: end });
+        }
+        self.report(train, next.head, next.speed);
     }
 
     fn report_less(&mut self, train: &Train) {
@@ -308,10 +360,14 @@ impl Scene {
         let id = train.id;
         self.call(Call::Hold { id });
         self.run_at_worst(index, again);
-        // A second hold does not begin the count again, and a lift does not end
-        // the brake.
+        // A second hold does not begin the count again, and neither a lift nor a
+        // call back ends the brake.
         let call = self.random.pick(&[Call::Hold { id }, Call::Lift { id }]);
         self.call(call);
+        if let Some(train) = self.train(index).filter(|_| self.random.once_in(2)) {
+            let place = train.end;
+            self.call(Call::CallBack { id, place });
+        }
         self.run_at_worst(index, count + 3 - again);
     }
 
@@ -345,7 +401,7 @@ impl Scene {
 
     /// A length that the scene lets in, often at or beside one for which the
     /// brake shop's sheet has an entry, or at an end of the sheet.
-    fn length_in_feet(&mut self) -> u64 {
+    pub fn length_in_feet(&mut self) -> u64 {
         let longest = self.profile().longest_feet;
         let feet = match self.random.below(8) {
             0 => longest,

@@ -5,9 +5,13 @@ use crate::brake::{LONGEST_FEET, STEPS_PER_FOOT};
 use crate::call::{Entry, Settings};
 use crate::convoy::Convoy;
 use crate::line::{GREATEST_CEILING, GREATEST_TRACTION, LONGEST_LINE};
-use crate::motion::Order;
+use crate::motion::{Motion, Order};
 use crate::scene::{Profile, Scene};
+use crate::train::Train;
 use crate::wire::{lines, MESSAGE_BYTES};
+
+/// About half of the traction.
+const HALF: Order = Order::Drive(GREATEST_TRACTION / 2 + 1);
 
 /// A lead-in, which is not measured, and the lines after it.
 pub struct Measured {
@@ -52,10 +56,43 @@ pub fn worst_free(count: usize) -> Measured {
 /// every report has to search for the cap. It comes to speed as on a free line,
 /// since less was in its reach on the way.
 pub fn worst_bound(count: usize) -> Measured {
-    let train = fast_scene(LONGEST_LINE).trains()[0];
-    let half = Order::Drive(GREATEST_TRACTION / 2 + 1);
-    let mut scene = fast_scene(train.motion.reach(half, train.brake));
+    let mut scene = bound_scene();
     measure_reports(&mut scene, count)
+}
+
+/// The same train slows down before that end, so that about half of the traction
+/// fits at each speed.
+pub fn slowing_bound(count: usize) -> Measured {
+    let mut scene = bound_scene();
+    measure(&mut scene, count, |train| {
+        let worst = train.worst();
+        let slower = |by: u64| Motion {
+            speed: worst.speed.saturating_sub(1000 * by),
+            ..worst
+        };
+        let fits = |next: &Motion| next.reach(HALF, train.brake) <= train.end;
+        let mut nexts = (0..).map(slower);
+        nexts.find(|next| next.speed == 0 || fits(next))
+    })
+}
+
+/// The same train stands, and at each report nearer to its end: at first all of
+/// the traction but one fits.
+pub fn standing_bound(count: usize) -> Measured {
+    let mut scene = entered_scene();
+    let train = scene.trains()[0];
+    let all = Order::Drive(GREATEST_TRACTION);
+    let way = train.motion.reach(all, train.brake) - 1 - train.motion.head;
+    scene.extend(&train, 1, way);
+    measure(&mut scene, count, |train| {
+        let nearer = train.motion.head + way / count as u64;
+        let head = nearer.min(train.worst().head);
+        Some(Motion {
+            head,
+            speed: 0,
+            ..train.motion
+        })
+    })
 }
 
 fn scene() -> Scene {
@@ -68,9 +105,8 @@ fn scene() -> Scene {
     Scene::new(1, profile)
 }
 
-/// One train with this end that has just come to the greatest speed at which the
-/// whole traction may still be used.
-fn fast_scene(end: u64) -> Scene {
+/// The longest train of class 3 has just entered.
+fn entered_scene() -> Scene {
     let mut scene = scene();
     scene.open(Settings {
         line_end: LONGEST_LINE,
@@ -86,8 +122,15 @@ fn fast_scene(end: u64) -> Scene {
         class: 3,
         start: 0,
     });
+    scene
+}
+
+/// It has this end, and has just come to the greatest speed at which the whole
+/// traction may still be used.
+fn fast_scene(end: u64) -> Scene {
+    let mut scene = entered_scene();
     let train = scene.trains()[0];
-    scene.extend(&train, 1, end - head);
+    scene.extend(&train, 1, end - train.end);
     while scene.trains()[0].motion.speed < GREATEST_CEILING - GREATEST_TRACTION {
         let train = scene.trains()[0];
         scene.report_worst(&train);
@@ -95,12 +138,24 @@ fn fast_scene(end: u64) -> Scene {
     scene
 }
 
+/// Only half of the traction fits its end there.
+fn bound_scene() -> Scene {
+    let train = fast_scene(LONGEST_LINE).trains()[0];
+    fast_scene(train.motion.reach(HALF, train.brake))
+}
+
 /// So many reports of the same head and speed after what the scene has.
 fn measure_reports(scene: &mut Scene, count: usize) -> Measured {
-    let train = scene.trains()[0];
+    measure(scene, count, |train| Some(train.motion))
+}
+
+/// So many reports of what the train's record gives, after what the scene has.
+fn measure(scene: &mut Scene, count: usize, next: impl Fn(&Train) -> Option<Motion>) -> Measured {
     let lead = scene.input().to_vec();
     for _ in 0..count {
-        scene.report(&train, train.motion.head, train.motion.speed);
+        let train = scene.trains()[0];
+        let next = next(&train).unwrap_or(train.motion);
+        scene.report(&train, next.head, next.speed);
     }
     let whole = scene.input().to_vec();
     Measured {

@@ -7,6 +7,7 @@ use crate::brake::{Brake, STEPS_PER_FOOT};
 use crate::call::{Answer, Call, Entry, Message, Refusal, Settings};
 use crate::callers::TurnedAway;
 use crate::motion::{Motion, Order};
+use crate::orders::Orders;
 use crate::wire::{lines, read_answer, read_message, whole_line};
 
 /// The claim does not hold after this line, or its answer is wrong. Lines are
@@ -18,7 +19,7 @@ pub struct Broken {
 }
 
 /// How far a history tested the claims about held and braked trains and about
-/// callers.
+/// callers, and the search for a cap.
 #[derive(Clone, Copy, Debug, Default, PartialEq, Eq)]
 pub struct Reached {
     /// Holds that lasted for the counted reports.
@@ -27,6 +28,7 @@ pub struct Reached {
     pub moving: u64,
     pub penalties: Penalties,
     pub turned_away: TurnedAway,
+    pub orders: Orders,
 }
 
 /// Brakes of moving trains, each until the train stands.
@@ -328,6 +330,11 @@ impl History {
         }
         stay.count_braked(&mut reached.penalties);
         let answered = allowed.and_then(|()| stay.obey(answer, settings));
+        if answered.is_ok() && stay.held.is_none() && stay.braked.is_none() {
+            reached
+                .orders
+                .count(stay.order, speed, stay.brake, settings);
+        }
         stay.begin_braked(&mut reached.penalties);
         let together = self
             .stays

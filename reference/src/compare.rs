@@ -1,9 +1,9 @@
 //! Runs the program under test and compares it with the second implementation.
 
-use crate::call::{Answer, Call, Code, Refusal, Settings};
+use crate::call::{Code, Refusal};
 use crate::callers::TurnedAway;
 use crate::claim::{self, Penalties, Reached};
-use crate::motion::Order;
+use crate::orders::Orders;
 use crate::session;
 use crate::wire::{lines, read_answer, read_message, whole_line};
 use std::io::{Read, Write};
@@ -85,16 +85,6 @@ pub struct Failure {
     pub found: Vec<u8>,
 }
 
-/// Accepted reports by the order that they were answered with.
-#[derive(Clone, Copy, Debug, Default, PartialEq, Eq)]
-pub struct Orders {
-    /// Drive with all that engine and ceiling allow.
-    pub free: u64,
-    /// Drive with a smaller cap, since the end is near.
-    pub bound: u64,
-    pub brake: u64,
-}
-
 /// What the compared lists held.
 #[derive(Clone, Debug, Default, PartialEq, Eq)]
 pub struct Counts {
@@ -109,18 +99,6 @@ pub struct Counts {
     pub lists_held_moving: u64,
     pub penalties: Penalties,
     pub turned_away: TurnedAway,
-}
-
-impl Orders {
-    fn add(&mut self, answer: Answer, speed: u64, settings: Settings) {
-        let [number, cap, _] = answer.values;
-        let highest = settings.traction.min(settings.ceiling - speed);
-        match Order::of_numbers([number, cap]) {
-            Some(Order::Drive(cap)) if cap == highest => self.free += 1,
-            Some(Order::Drive(_)) => self.bound += 1,
-            _ => self.brake += 1,
-        }
-    }
 }
 
 impl Counts {
@@ -138,7 +116,7 @@ impl Counts {
         self.lists_held_moving += u64::from(reached.moving > 0);
         self.penalties.add(reached.penalties);
         self.turned_away.add(reached.turned_away);
-        let mut settings = None;
+        self.orders.add(reached.orders);
         for (line, answer) in lines(input).zip(lines(expected)) {
             let message = whole_line(line).and_then(read_message);
             let call = message.map(|message| message.call);
@@ -148,21 +126,6 @@ impl Counts {
             let code = call.map_or(0, |call| call.code() as usize);
             self.lines += 1;
             self.answers[code][answer.number as usize] += 1;
-            if let Some(call) = call.filter(|_| answer.is_accepted()) {
-                self.add_order(call, answer, &mut settings);
-            }
-        }
-    }
-
-    /// Counts the order of an accepted report. The opening says what engine and
-    /// ceiling allow.
-    fn add_order(&mut self, call: Call, answer: Answer, settings: &mut Option<Settings>) {
-        match (call, *settings) {
-            (Call::Open(given), _) => *settings = Some(given),
-            (Call::Report { speed, .. }, Some(settings)) => {
-                self.orders.add(answer, speed, settings);
-            }
-            _ => {}
         }
     }
 }

@@ -36,10 +36,12 @@ pub enum Kind {
     Openings,
     /// Any settings, any calls.
     Mixture,
+    /// Ends that a cap just fits, at a stand and at all speeds.
+    Searched,
 }
 
 impl Kind {
-    pub const ALL: [Kind; 11] = [
+    pub const ALL: [Kind; 12] = [
         Kind::Running,
         Kind::Full,
         Kind::Ranges,
@@ -51,6 +53,7 @@ impl Kind {
         Kind::Garbage,
         Kind::Openings,
         Kind::Mixture,
+        Kind::Searched,
     ];
 
     fn profile(self, random: &mut Random) -> Profile {
@@ -70,6 +73,7 @@ impl Kind {
                 random.between(1, 12) as usize,
                 random.pick(&[0, 0, 10, 100]),
             ),
+            Kind::Searched => (random.pick(&[20, 600, 2000, LONGEST_FEET]), 3, 0),
         };
         Profile {
             longest_feet,
@@ -83,7 +87,7 @@ impl Kind {
     fn lines(self) -> usize {
         match self {
             Kind::Running => 4000,
-            Kind::Worst | Kind::Held => 2500,
+            Kind::Worst | Kind::Held | Kind::Searched => 2500,
             Kind::Tight | Kind::Braked | Kind::Mixture => 1600,
             Kind::Tiny | Kind::Full | Kind::Garbage => 1000,
             Kind::Ranges => 0,
@@ -113,6 +117,7 @@ pub fn list(seed: u64, kind: Kind) -> Vec<u8> {
         Kind::Held => held(&mut scene, settings),
         Kind::Braked => braked(&mut scene, settings),
         Kind::Openings => openings(&mut scene, settings),
+        Kind::Searched => searched(&mut scene, settings),
         _ => open(&mut scene, settings),
     }
     while scene.lines() < kind.lines() {
@@ -160,6 +165,12 @@ fn settings(random: &mut Random, kind: Kind) -> Settings {
             safety: random.scaled(GREATEST_SAFETY),
             ceiling: random.pick(&[100_000, 2_000_000, GREATEST_CEILING]),
             traction: random.pick(&[500, 3726, GREATEST_TRACTION]),
+        },
+        Kind::Searched => Settings {
+            line_end: LONGEST_LINE,
+            safety: random.scaled(GREATEST_SAFETY),
+            ceiling: random.pick(&[50_000, 2_000_000, 20_000_000, GREATEST_CEILING]),
+            traction: random.pick(&[3726, 40_000, GREATEST_TRACTION, GREATEST_TRACTION]),
         },
         _ => Settings {
             line_end: random.between(20_000_000_000, LONGEST_LINE),
@@ -262,6 +273,28 @@ fn braked(scene: &mut Scene, settings: Settings) {
     while scene.lines() < Kind::Braked.lines() {
         scene.let_in();
         scene.brake_all();
+        scene.step();
+    }
+}
+
+/// Two trains with much track, one of them as long as the scene lets in. Their
+/// ends are set so that a cap just fits, again and again.
+fn searched(scene: &mut Scene, settings: Settings) {
+    open(scene, settings);
+    let lengths = [scene.length_in_feet(), scene.profile().longest_feet];
+    for (id, feet) in [2, 1].into_iter().zip(lengths) {
+        let entry = Entry {
+            id,
+            head: settings.line_end / 3 * id,
+            feet,
+            class: scene.random.between(1, 3),
+            start: 0,
+        };
+        scene.enter(entry);
+    }
+    while scene.lines() < Kind::Searched.lines() {
+        give_all_track(scene);
+        scene.search_caps();
         scene.step();
     }
 }

@@ -7,6 +7,7 @@ use reference::call::{Answer, Call, Code, Entry, Message, Refusal, Settings};
 use reference::callers::{usual, Wrong};
 use reference::claim::{check, Broken, Penalties, Reached};
 use reference::motion::{Motion, Order};
+use reference::orders::Orders;
 use reference::wire::{put_answer, put_message, FIELD_BYTES};
 
 const LINE_END: u64 = 1_000_000_000;
@@ -263,6 +264,25 @@ fn held_train_that_moves_again_is_refused() {
     assert_eq!(made.check(), Ok(reached));
     made.report(HEAD, 1, Order::Brake, HEAD);
     made.assert_broken("under hold");
+}
+
+/// A train that brakes since it is held, or goes on braking, has no cap tried.
+#[test]
+fn orders_are_counted_where_caps_were_tried() {
+    let mut made = Made::driving();
+    made.report(HEAD + 7, 7, Order::Brake, REACH);
+    made.report(HEAD + 21, 7, Order::Brake, REACH);
+    made.report(REACH, 0, Order::Drive(0), REACH);
+    made.accepted(Call::Hold { id: 1 });
+    made.stand(1, REACH);
+    let orders = Orders {
+        between: 1,
+        few: 1,
+        brake: 1,
+        zero: 1,
+        ..Orders::default()
+    };
+    assert_eq!(made.check().map(|reached| reached.orders), Ok(orders));
 }
 
 #[test]

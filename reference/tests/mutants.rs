@@ -208,6 +208,8 @@ fn right_version_does_not_differ_from_itself() {
     assert!(seen.together > 2, "{seen:?}");
     let rare = counts.turned_away.rare(50);
     assert!(rare.is_empty(), "callers without the right: {rare:?}");
+    let rare = counts.orders.rare(200);
+    assert!(rare.is_empty(), "caps found by trials: {rare:?}");
 }
 
 /// So it is the edit that makes a wrong version differ.

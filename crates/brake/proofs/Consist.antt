@@ -85,7 +85,7 @@ entry-within : (l : ℕ) → l ≤ greatestLength → entryFor l ≤ 500
 unfolding entryFor ceilDiv
 entry-within l h = omega arith
 
-cycles-most : (l : ℕ) → l ≤ greatestLength → brakeCycles l ≤ 1961
+pub cycles-most : (l : ℕ) → l ≤ greatestLength → brakeCycles l ≤ 1961
 unfolding brakeCycles sheetEntry
 cycles-most l h = formula-most (20 * entryFor l) (omega (arith, entry-within l h))
 

@@ -84,7 +84,7 @@ described load l force mass car within =
       growth = rounded-down (fullBrake force mass) (brakeCycles l) (cycles-positive l);
     }
 
-cycles-described : {load l : ℕ} {k : Figures} (d : Described load l k) → brakeCycles l ≡ d .cycles
+pub cycles-described : {load l : ℕ} {k : Figures} (d : Described load l k) → brakeCycles l ≡ d .cycles
 unfolding brakeCycles entryFor sheetEntry applicationCycles applicationTime
 cycles-described {l = l} d =
     rw (rounded-once (d .entry) l 20 (lit< tt) (d .multiple))

@@ -24,7 +24,7 @@ Chosen passes n (Drive c) = IsGreatest passes n c
 Chosen passes n Brake = (d : ℕ) → d ≤ n → passes d ≡ false
 
 module _ (passes : ℕ → Bool) where
-  pub greatest-here : (n : ℕ) → passes n ≡ true → greatest passes n ≡ Drive n
+  greatest-here : (n : ℕ) → passes n ≡ true → greatest passes n ≡ Drive n
   unfolding greatest
   greatest-here zero e = rw (e, greatest)
   greatest-here (suc n) e = rw (e, greatest)

@@ -27,7 +27,7 @@ use Rattle.motion.proofs.Greatest.{IsGreatest, greatest-is}
 -- ---- the cap that fits
 
 -- a greater cap reaches no less far
-pub reach-mono : (k : Figures) (m : Motion) (c d : ℕ) → Sound k → c ≤ d → reach k m (Drive c) ≤ reach k m (Drive d)
+reach-mono : (k : Figures) (m : Motion) (c d : ℕ) → Sound k → c ≤ d → reach k m (Drive c) ≤ reach k m (Drive d)
 reach-mono k m c d s h =
     let same : NoWorse m m = record { head = le-refl _; speed = le-refl _; level = refl } in
     no-worse-stop k _ _ s (no-worse-drive k m m same h)

@@ -1,7 +1,10 @@
 //! Measures the session program beside the second implementation: time and,
-//! where valgrind is there, instructions for each line.
+//! where valgrind is there, instructions for each line. With `--before` another
+//! session program is measured too.
 
-use reference::bench::{realistic, worst_bound, worst_free, Measured};
+use reference::bench::{
+    realistic, slowing_bound, standing_bound, worst_bound, worst_free, Measured,
+};
 use reference::compare;
 use reference::ended;
 use std::fs::File;
@@ -12,7 +15,7 @@ use std::time::{Duration, Instant};
 /// Each input is run so often, and for so long, since short runs vary more.
 const LEAST_RUNS: usize = 5;
 const LEAST_TIME: Duration = Duration::from_millis(400);
-const USAGE: &str = "usage: benchmark [--time-only] [--program PATH]";
+const USAGE: &str = "usage: benchmark [--time-only] [--program PATH] [--before PATH]";
 
 /// A kind of input, how many lines are timed, and how many are counted.
 struct Case {
@@ -22,7 +25,7 @@ struct Case {
     counted: usize,
 }
 
-const CASES: [Case; 5] = [
+const CASES: [Case; 7] = [
     Case {
         name: "realistic, 1 train",
         make: |count| realistic(1, count),
@@ -53,6 +56,18 @@ const CASES: [Case; 5] = [
         timed: &[1000, 10_000],
         counted: 200,
     },
+    Case {
+        name: "slowing, cap searched",
+        make: slowing_bound,
+        timed: &[1000],
+        counted: 1000,
+    },
+    Case {
+        name: "stand, cap searched",
+        make: standing_bound,
+        timed: &[1000, 10_000],
+        counted: 1000,
+    },
 ];
 
 fn main() -> ExitCode {
@@ -62,22 +77,33 @@ fn main() -> ExitCode {
 fn start() -> Result<(), String> {
     let mut time_only = false;
     let mut session = compare::program();
+    let mut before = None;
     let mut words = std::env::args().skip(1);
     while let Some(word) = words.next() {
         match word.as_str() {
             "--time-only" => time_only = true,
             "--program" => session = PathBuf::from(words.next().ok_or(USAGE)?),
+            "--before" => before = Some(PathBuf::from(words.next().ok_or(USAGE)?)),
             _ => return Err(USAGE.to_string()),
         }
     }
-    let programs = [session, beside("reference")?];
+    let others = [Some(beside("reference")?), before];
+    let programs: Vec<PathBuf> = [Some(session)]
+        .into_iter()
+        .chain(others)
+        .flatten()
+        .collect();
     for program in &programs {
         compare::must_exist(program)?;
     }
-    println!(
-        "{:<22}{:>8}{:>18}{:>12}{:>12}{:>8}",
-        "input", "lines", "for each line", "session", "reference", "ratio"
+    print!(
+        "{:<22}{:>8}{:>18}{:>12}",
+        "input", "lines", "for each line", "session"
     );
+    for other in ["reference", "before"].iter().take(programs.len() - 1) {
+        print!("{other:>12}{:>8}", "ratio");
+    }
+    println!();
     for case in &CASES {
         for &count in case.timed {
             let measured = (case.make)(count);
@@ -104,26 +130,30 @@ fn start() -> Result<(), String> {
     Ok(())
 }
 
-/// One row: what the lines after the lead-in cost in both programs.
+/// One row: what the lines after the lead-in cost in the first program, then in
+/// each other one and how the first compares with it.
 fn row(
     name: &str,
     measured: &Measured,
     unit: &str,
-    programs: &[PathBuf; 2],
+    programs: &[PathBuf],
     cost: fn(&Path, &Path) -> Result<f64, String>,
 ) -> Result<(), String> {
-    let mut per_line = [0.0; 2];
-    for (program, result) in programs.iter().zip(&mut per_line) {
+    let per_line = |program: &PathBuf| {
         let lead = with_file(&measured.lead, |file| cost(program, file))?;
         let whole = with_file(&measured.whole, |file| cost(program, file))?;
-        *result = (whole - lead).max(0.0) / measured.lines as f64;
+        Ok((whole - lead).max(0.0) / measured.lines as f64)
+    };
+    let costs: Vec<f64> = programs
+        .iter()
+        .map(per_line)
+        .collect::<Result<_, String>>()?;
+    let session = costs[0];
+    print!("{name:<22}{:>8}{unit:>18}{session:>12.0}", measured.lines);
+    for other in &costs[1..] {
+        print!("{other:>12.0}{:>8.2}", session / other);
     }
-    let [session, reference] = per_line;
-    println!(
-        "{name:<22}{:>8}{unit:>18}{session:>12.0}{reference:>12.0}{:>8.2}",
-        measured.lines,
-        session / reference
-    );
+    println!();
     Ok(())
 }
 

@@ -16,6 +16,8 @@ const DEFAULT_SEED: u64 = 20_260_101;
 const DEFAULT_LINES: u64 = 600_000;
 /// In so many lines each kind of caller without the right tries each call.
 const LINES_FOR_A_WRONG_CALLER: u64 = 10_000;
+/// In so many lines a search for a cap ends in each way.
+const LINES_FOR_A_SEARCH: u64 = 2000;
 const USAGE: &str = "usage: compare [--seed N] [--lines N] [--program PATH] [--replay FILE]";
 
 struct Options {
@@ -87,7 +89,8 @@ fn compare_lists(options: &Options) -> Result<(), String> {
         options.seed
     );
     all_numbers_occur(&counts)?;
-    all_wrong_callers_occur(&counts)
+    all_wrong_callers_occur(&counts)?;
+    all_searches_occur(&counts)
 }
 
 fn compare_list(
@@ -164,10 +167,9 @@ fn print_table(counts: &Counts) {
         counts.lists,
         counts.by_code(Code::Report)
     );
-    println!(
-        "{} drive as far as engine and ceiling allow, {} less, {} brake",
-        counts.orders.free, counts.orders.bound, counts.orders.brake
-    );
+    let named = |(what, count)| format!("{count} {what}");
+    let caps = counts.orders.named().map(named);
+    println!("caps found by trials: {}", caps.join(", "));
     println!(
         "{} lists reached the held count, {} of them with a train that was moving",
         counts.lists_held, counts.lists_held_moving
@@ -220,6 +222,19 @@ fn all_wrong_callers_occur(counts: &Counts) -> Result<(), String> {
     }
     Err(format!(
         "callers without the right, fewer than {least}: {}",
+        rare.join(", ")
+    ))
+}
+
+/// A search that is seldom made is hardly compared.
+fn all_searches_occur(counts: &Counts) -> Result<(), String> {
+    let least = (counts.lines / LINES_FOR_A_SEARCH).max(1);
+    let rare = counts.orders.rare(least);
+    if rare.is_empty() {
+        return Ok(());
+    }
+    Err(format!(
+        "caps found by trials, fewer than {least}: {}",
         rare.join(", ")
     ))
 }

@@ -1,8 +1,10 @@
--- The search for the greatest cap: which caps are allowed, and how halving finds the greatest of them.
+-- The search for the greatest cap: which caps are allowed, where the search ends, and how many trials it takes.
 -- Assumes nothing.
 use Prim.Native.Nat.{ℕ, zero, suc, _+_, _-_, _/_, _≤_, _<_}
 use mathlib.Core.Bool.{Bool, true, false}
+use mathlib.Core.Logic.{by-cases, _⊎_, inl, inr}
 use mathlib.Core.Path.{_≡_}
+use native.Mathlib.Decide.{decLe}
 use native.Mathlib.Nat.{le-refl}
 use native.Mathlib.Omega.{arith}
 use Rattle.brake.specs.declared.Figures.{Figures}
@@ -14,7 +16,7 @@ use Rattle.motion.specs.declared.Order.the-variants.{Drive, Brake}
 use Rattle.motion.specs.Orders.{capFits, keepsGoal, greatest, orderFor}
 use Rattle.motion.proofs.Greatest.{greatest-only, greatest-agree}
 use Rattle.motion.proofs.Orders.{fits-over, fits-under}
-use Rattle.caps.specs.Search.{CapsAllowed}
+use Rattle.caps.specs.Search.{CapsAllowed, guesses, Next}
 
 module _ (k : Figures) (l : Limits) (goal : ℕ) (m : Motion) where
   -- no cap is allowed: brake
@@ -31,39 +33,23 @@ module _ (k : Figures) (l : Limits) (goal : ℕ) (m : Motion) where
       (λ d q. fits-under k l goal m d (a .keep d (omega arith)))
       (λ d p q. fits-over k l goal m d (a .exceed d (omega arith) q))
 
--- ---- halving
-
--- every number below low passes, and none from high to n does
-pub record Bracket (passes : ℕ → Bool) (n low high : ℕ) : Type 0 where
-  pub ordered : low ≤ high
-  pub within : high ≤ n + 1
-  pub below : (d : ℕ) → d < low → passes d ≡ true
-  pub above : (d : ℕ) → high ≤ d → d ≤ n → passes d ≡ false
+-- ---- the end of the search
 
 -- for a test that every number below a passing one passes
 module _ (passes : ℕ → Bool) (closed : (c d : ℕ) → c ≤ d → passes d ≡ true → passes c ≡ true) (n : ℕ) where
-  pub bracket-up : (low high mid : ℕ) → Bracket passes n low high → mid < high → passes mid ≡ true → Bracket passes n (mid + 1) high
-  bracket-up low high mid b h t =
-      record { ordered = omega arith; within = b .within; below = λ d p. closed d mid (omega arith) t; above = b .above }
+  fails-above : (c d : ℕ) → c ≤ d → passes c ≡ false → passes d ≡ false
+  fails-above c d h f = by-test (passes d) (λ t. absurd (not-both (closed c d h t) f)) (λ f. f)
 
-  pub bracket-down : (low high mid : ℕ) → Bracket passes n low high → low ≤ mid → mid < high → passes mid ≡ false → Bracket passes n low mid
-  bracket-down low high mid b g h f =
-      record {
-        ordered = g;
-        within = omega arith;
-        below = b .below;
-        above = λ d p q. by-test (passes d) (λ t. absurd (not-both (closed mid d p t) f)) (λ f. f);
-      }
+  -- c passes, and it is the last, or the next one does not pass: then c is the greatest
+  pub found : (c : ℕ) → c ≤ n → passes c ≡ true → (c < n → passes (suc c) ≡ false) → greatest passes n ≡ Drive c
+  found c h t next =
+      greatest-only passes n (Drive c) (record { within = h; itself = t; above = λ d p q. fails-above (suc c) d (omega arith) (next (omega arith)) })
 
-  -- and none passes where 0 does not
-  pub none-passes : passes 0 ≡ false → greatest passes n ≡ Brake
-  none-passes f = greatest-only passes n Brake (λ d q. by-test (passes d) (λ t. absurd (not-both (closed 0 d (omega arith) t) f)) (λ f. f))
+  -- 0 does not pass: then none does
+  pub none-found : passes 0 ≡ false → greatest passes n ≡ Brake
+  none-found f = greatest-only passes n Brake (λ d q. fails-above 0 d (omega arith) f)
 
--- where the two meet, the search is over
-pub bracket-found : (passes : ℕ → Bool) (n low high : ℕ) → Bracket passes n low high → high ≤ low → 0 < low → greatest passes n ≡ Drive (low - 1)
-bracket-found passes n low high b h some =
-    greatest-only passes n (Drive (low - 1))
-    (record { within = omega arith; itself = b .below (low - 1) (omega arith); above = λ d p q. b .above d (omega arith) q })
+-- ---- how many trials it takes
 
 -- number of binary digits; the first argument bounds the recursion
 digitsWithin : ℕ → ℕ → ℕ
@@ -83,13 +69,39 @@ digits-mono (suc f) (suc g) (suc m) zero h p q = absurd (omega arith)
 digits-mono (suc f) (suc g) (suc m) (suc n) h p q =
     let less = digits-mono f g (suc m / 2) (suc n / 2) (omega arith) (omega arith) (omega arith) in omega arith
 
+digits-le : (m n : ℕ) → m ≤ n → digits m ≤ digits n
+unfolding digits
+digits-le m n h = digits-mono m n m n h (le-refl m) (le-refl n)
+
 -- half has a digit less
-pub half-digits : (m n : ℕ) → 0 < n → m ≤ n / 2 → digits m < digits n
+half-digits : (m n : ℕ) → 0 < n → m ≤ n / 2 → digits m < digits n
 unfolding digits digitsWithin
 half-digits m zero h p = absurd (omega arith)
 half-digits m (suc n) h p = let less = digits-mono m n m (suc n / 2) p (le-refl m) (omega arith) in omega arith
 
--- so halving what lies between cap 0 and another cap takes 17 trials at most
-pub trials-most : (high : ℕ) → high ≤ greatestTraction → digits (high - 1) ≤ 17
+-- The trials that are left, after so many and with so many caps between the two: those that guess, and then one for each digit.
+abbrev pub trialsLeft : ℕ → ℕ → ℕ
+trialsLeft trials between = (guesses - trials) + digits between
+
+-- a trial of what comes next leaves fewer
+pub fewer-left : (trials low top c d : ℕ) → Next trials low top c → (d ≡ c - low - 1) ⊎ (d ≡ top - c - 1) → trialsLeft (trials + 1) d < trialsLeft trials (top - low - 1)
+fewer-left trials low top c d next e =
+    by-cases (decLe guesses trials)
+    (λ halving.
+    let half = next .halves halving in
+    let digit = half-digits d (top - low - 1) (omega (arith, next .above, next .below)) (nearer half e) in
+    omega arith)
+    (λ guessing. let fewer = digits-le d (top - low - 1) (closer e) in omega arith)
+  where
+    closer : (d ≡ c - low - 1) ⊎ (d ≡ top - c - 1) → d ≤ top - low - 1
+    closer (inl e) = omega (arith, next .above, next .below)
+    closer (inr e) = omega (arith, next .above, next .below)
+
+    nearer : c ≡ low + (top - low) / 2 → (d ≡ c - low - 1) ⊎ (d ≡ top - c - 1) → d ≤ (top - low - 1) / 2
+    nearer half (inl e) = omega (arith, next .above, next .below)
+    nearer half (inr e) = omega (arith, next .above, next .below)
+
+-- no search takes more than 25
+pub trials-most : (high : ℕ) → high ≤ greatestTraction → trialsLeft 0 (high - 1) ≤ 25
 unfolding digits digitsWithin
-trials-most high h = digits-mono (high - 1) 99999 (high - 1) 99999 (omega arith) (le-refl _) (le-refl _)
+trials-most high h = let few = digits-le (high - 1) 99999 (omega arith) in omega arith
