@@ -1,21 +1,22 @@
 -- The search for the greatest cap: which caps are allowed, where the search ends, and how many trials it takes.
 -- Assumes nothing.
 use Prim.Native.Nat.{ℕ, zero, suc, _+_, _-_, _/_, _≤_, _<_}
-use mathlib.Core.Bool.{Bool, true, false}
+use mathlib.Core.Bool.{false}
 use mathlib.Core.Logic.{by-cases, _⊎_, inl, inr}
 use mathlib.Core.Path.{_≡_}
 use native.Mathlib.Decide.{decLe}
-use native.Mathlib.Nat.{le-refl}
+use native.Mathlib.Nat.{le-refl, le-trans}
 use native.Mathlib.Omega.{arith}
+use borrow.Author.Tests.{le-leb, lt-leb}
 use Rattle.brake.specs.declared.Figures.{Figures}
-use Rattle.logic.proofs.Tests.{by-test, not-both}
+use Rattle.brake.specs.Consist.{Sound}
 use Rattle.ranges.specs.Ranges.{greatestTraction}
 use Rattle.motion.specs.declared.Motion.{Motion}
 use Rattle.motion.specs.declared.Limits.{Limits}
 use Rattle.motion.specs.declared.Order.the-variants.{Drive, Brake}
-use Rattle.motion.specs.Orders.{capFits, keepsGoal, greatest, orderFor}
+use Rattle.motion.specs.Orders.{reach, capFits, keepsGoal, greatest, orderFor}
 use Rattle.motion.proofs.Greatest.{greatest-only, greatest-agree}
-use Rattle.motion.proofs.Orders.{fits-over, fits-under}
+use Rattle.motion.proofs.Orders.{reach-mono, fits-over, fits-under}
 use Rattle.caps.specs.Search.{CapsAllowed, guesses, Next}
 
 module _ (k : Figures) (l : Limits) (goal : ℕ) (m : Motion) where
@@ -35,19 +36,19 @@ module _ (k : Figures) (l : Limits) (goal : ℕ) (m : Motion) where
 
 -- ---- the end of the search
 
--- for a test that every number below a passing one passes
-module _ (passes : ℕ → Bool) (closed : (c d : ℕ) → c ≤ d → passes d ≡ true → passes c ≡ true) (n : ℕ) where
-  fails-above : (c d : ℕ) → c ≤ d → passes c ≡ false → passes d ≡ false
-  fails-above c d h f = by-test (passes d) (λ t. absurd (not-both (closed c d h t) f)) (λ f. f)
+module _ (k : Figures) (goal : ℕ) (m : Motion) (s : Sound k) (high : ℕ) where
+  fails-above : (c d : ℕ) → c ≤ d → goal < reach k m (Drive c) → keepsGoal k goal m d ≡ false
+  fails-above c d h over = lt-leb _ _ (le-trans over (reach-mono k m c d s h))
 
-  -- c passes, and it is the last, or the next one does not pass: then c is the greatest
-  pub found : (c : ℕ) → c ≤ n → passes c ≡ true → (c < n → passes (suc c) ≡ false) → greatest passes n ≡ Drive c
-  found c h t next =
-      greatest-only passes n (Drive c) (record { within = h; itself = t; above = λ d p q. fails-above (suc c) d (omega arith) (next (omega arith)) })
+  -- this cap keeps the goal, and it is the greatest allowed, or the next one does not keep it: then it is the greatest that does
+  pub found : (c : ℕ) → c ≤ high → reach k m (Drive c) ≤ goal → (c < high → goal < reach k m (Drive (suc c))) → greatest (keepsGoal k goal m) high ≡ Drive c
+  found c h kept next =
+      greatest-only (keepsGoal k goal m) high (Drive c)
+      (record { within = h; itself = le-leb _ _ kept; above = λ d p q. fails-above (suc c) d (omega arith) (next (omega arith)) })
 
-  -- 0 does not pass: then none does
-  pub none-found : passes 0 ≡ false → greatest passes n ≡ Brake
-  none-found f = greatest-only passes n Brake (λ d q. fails-above 0 d (omega arith) f)
+  -- cap 0 does not keep it: then none does
+  pub none-found : goal < reach k m (Drive 0) → greatest (keepsGoal k goal m) high ≡ Brake
+  none-found over = greatest-only (keepsGoal k goal m) high Brake (λ d q. fails-above 0 d (omega arith) over)
 
 -- ---- how many trials it takes
 

@@ -7,7 +7,7 @@ use mathlib.Core.Path.{_≡_, refl, sym}
 use native.Mathlib.Nat.{le-trans, le-refl}
 use native.Mathlib.Omega.{arith}
 use lib.Dec.{leb}
-use borrow.Author.Tests.{le-leb, leb-true}
+use borrow.Author.Tests.{le-leb}
 use Rattle.brake.specs.declared.Figures.{Figures}
 use Rattle.brake.specs.Consist.{Sound}
 use Rattle.motion.specs.declared.Motion.{Motion}
@@ -15,7 +15,7 @@ use Rattle.motion.specs.declared.Limits.{Limits}
 use Rattle.motion.specs.declared.Order.{Order}
 use Rattle.motion.specs.declared.Order.the-variants.{Drive, Brake}
 use Rattle.motion.specs.Motion.{driveTravel, driveSpeed, releasedLevel}
-use Rattle.motion.specs.Orders.{orderCap, worstCase, stoppingPlace, reach, capFits, keepsGoal, orderFor}
+use Rattle.motion.specs.Orders.{orderCap, worstCase, stoppingPlace, reach, capFits, orderFor}
 use Rattle.ranges.specs.Ranges.{greatestLineEnd, greatestCeiling, greatestTraction}
 use Rattle.motion.specs.Bounds.{Bounded}
 use Rattle.motion.proofs.Cycles.{level-le}
@@ -27,14 +27,10 @@ use Rattle.motion.proofs.Greatest.{IsGreatest, greatest-is}
 -- ---- the cap that fits
 
 -- a greater cap reaches no less far
-reach-mono : (k : Figures) (m : Motion) (c d : ℕ) → Sound k → c ≤ d → reach k m (Drive c) ≤ reach k m (Drive d)
+pub reach-mono : (k : Figures) (m : Motion) (c d : ℕ) → Sound k → c ≤ d → reach k m (Drive c) ≤ reach k m (Drive d)
 reach-mono k m c d s h =
     let same : NoWorse m m = record { head = le-refl _; speed = le-refl _; level = refl } in
     no-worse-stop k _ _ s (no-worse-drive k m m same h)
-
--- below a cap that keeps the goal every cap keeps it
-pub goal-below : (k : Figures) (goal : ℕ) (m : Motion) (c d : ℕ) → Sound k → c ≤ d → keepsGoal k goal m d ≡ true → keepsGoal k goal m c ≡ true
-goal-below k goal m c d s h e = le-leb _ _ (le-trans (reach-mono k m c d s h) (leb-true _ _ e))
 
 module _ (k : Figures) (l : Limits) (goal : ℕ) (m : Motion) where
   pub fits-keeps : (c : ℕ) → capFits k l goal m c ≡ true → (driveSpeed k (m .speed) c ≤ l .ceiling) × (reach k m (Drive c) ≤ goal)

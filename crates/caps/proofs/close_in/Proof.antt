@@ -6,13 +6,11 @@ use mathlib.Core.Logic.{by-cases, inl, inr}
 use mathlib.Core.Path.{_≡_, refl, ap, subst}
 use native.Mathlib.Decide.{decLt}
 use native.Mathlib.Omega.{arith}
-use borrow.Author.Tests.{le-leb, lt-leb}
 use Rattle.brake.specs.declared.Figures.{Figures}
 use Rattle.motion.specs.declared.Motion.{Motion}
 use Rattle.motion.specs.declared.Order.the-variants.{Drive}
-use Rattle.motion.specs.Orders.{reach, keepsGoal}
+use Rattle.motion.specs.Orders.{reach}
 use Rattle.motion.proofs.Bounds.{bounded-cap}
-use Rattle.motion.proofs.Orders.{goal-below}
 use Rattle.caps.proofs.Trials.{found, digits, trialsLeft, fewer-left, trials-most}
 use Rattle.caps.proofs.close_in.Statement.{statement}
 use Rattle.caps.proofs.close_in.Tie as tie
@@ -131,8 +129,8 @@ returns c =
     let over : a .goal < reach (a .k) (a .m) (Drive (suc low)) =
     subst (λ (d : ℕ). a .goal < reach (a .k) (a .m) (Drive d)) next (omega (arith, inv .top-reached, inv .beyond)) in
     let last =
-    found (keepsGoal (a .k) (a .goal) (a .m)) (λ x y h e. goal-below (a .k) (a .goal) (a .m) x y (start .pre .1 .bounded .figures) h e) (a .high)
-    low (omega (arith, inv .apart, inv .within)) (le-leb (reach (a .k) (a .m) (Drive low)) (a .goal) (omega (arith, inv .low-reached, inv .keeps))) (λ h. lt-leb _ _ over) in
+    found (a .k) (a .goal) (a .m) (start .pre .1 .bounded .figures) (a .high)
+    low (omega (arith, inv .apart, inv .within)) (omega (arith, inv .low-reached, inv .keeps)) (λ h. over) in
     rw (inv .low-reached, last)
 
 pub close-in-spec : {M : Type 1} → statement M

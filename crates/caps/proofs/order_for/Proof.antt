@@ -4,11 +4,8 @@ use Prim.Native.Nat.{ℕ, _-_}
 use mathlib.Core.Path.{_≡_, subst}
 use native.Mathlib.Omega.{arith}
 use borrow.Author.Needs.{needs}
-use borrow.Author.Tests.{le-leb}
-use Rattle.motion.specs.declared.Order.the-variants.{Drive}
-use Rattle.motion.specs.Orders.{reach, keepsGoal, greatest, orderFor}
+use Rattle.motion.specs.Orders.{keepsGoal, greatest, orderFor}
 use Rattle.motion.proofs.Bounds.{bounded-cap}
-use Rattle.motion.proofs.Orders.{goal-below}
 use Rattle.caps.specs.Search.{CapsAllowed, Beyond}
 use Rattle.caps.proofs.Trials.{none-allowed, some-allowed, found}
 use Rattle.caps.proofs.order_for.Statement.{statement}
@@ -41,10 +38,9 @@ returns-2 c =
     let some = tried .before in
     let start = some .before .before in
     let a = start .args in
-    let kept = le-leb (reach (a .k) (a .m) (Drive (Most some))) (a .goal) (omega (arith, tried .reach-of .ensures, c .if2 .taken)) in
     let last =
-    found (keepsGoal (a .k) (a .goal) (a .m)) (λ x y h e. goal-below (a .k) (a .goal) (a .m) x y (start .pre .figures) h e) (Most some)
-    (Most some) (omega arith) kept (λ h. absurd (omega arith)) in
+    found (a .k) (a .goal) (a .m) (start .pre .figures) (Most some)
+    (Most some) (omega arith) (omega (arith, tried .reach-of .ensures, c .if2 .taken)) (λ h. absurd (omega arith)) in
     rw (tried .reach-of .ensures, order some, last)
 
 -- it does not

@@ -3,11 +3,8 @@
 use native.Mathlib.Omega.{arith}
 use lib.ListN.{length-take}
 use borrow.Author.Needs.{needs}
-use borrow.Author.Tests.{lt-leb}
 use Rattle.motion.specs.declared.Order.the-variants.{Drive}
-use Rattle.motion.specs.Orders.{reach, keepsGoal}
 use Rattle.motion.proofs.Bounds.{worst-braking}
-use Rattle.motion.proofs.Orders.{goal-below}
 use Rattle.caps.proofs.Trials.{none-found}
 use Rattle.caps.proofs.search.Statement.{statement}
 use Rattle.caps.proofs.search.Tie as tie
@@ -28,8 +25,7 @@ returns c =
     let test = c .before in
     let start = test .before .before .before .before .before .before .before .before .before in
     let a = start .args in
-    let over = lt-leb (reach (a .k) (a .m) (Drive 0)) (a .goal) (omega (arith, test .before .trial .ensures, test .if1 .taken)) in
-    rw (c .offer-of .ensures, none-found (keepsGoal (a .k) (a .goal) (a .m)) (λ x y h e. goal-below (a .k) (a .goal) (a .m) x y (start .pre .0 .bounded .figures) h e) (a .high) over)
+    rw (c .offer-of .ensures, none-found (a .k) (a .goal) (a .m) (start .pre .0 .bounded .figures) (a .high) (omega (arith, test .before .trial .ensures, test .if1 .taken)))
 
 slice-aggregate-close-in : tie.Need-slice-aggregate-close-in
 slice-aggregate-close-in c = simp length-take (omega (arith, c .before .before .before .before .before .before .list-levels .ensures .within))
