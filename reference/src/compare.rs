@@ -46,8 +46,14 @@ pub fn must_exist(program: &Path) -> Result<(), String> {
 /// The whole output of a program for a whole input.
 pub fn run(program: &Path, input: &[u8]) -> Result<Vec<u8>, String> {
     must_exist(program)?;
-    let failed = |what: &str, error| format!("{}: {what}: {error}", program.display());
-    let mut child = Command::new(program)
+    run_command(&mut Command::new(program), input)
+}
+
+/// The same of a command, which may have variables of its own.
+pub fn run_command(command: &mut Command, input: &[u8]) -> Result<Vec<u8>, String> {
+    let name = command.get_program().to_string_lossy().into_owned();
+    let failed = |what: &str, error| format!("{name}: {what}: {error}");
+    let mut child = command
         .stdin(Stdio::piped())
         .stdout(Stdio::piped())
         .spawn()
@@ -71,7 +77,7 @@ pub fn run(program: &Path, input: &[u8]) -> Result<Vec<u8>, String> {
     .map_err(|error| failed("its output cannot be read", error))?;
     let status = child.wait().map_err(|error| failed("no status", error))?;
     if !status.success() {
-        return Err(format!("{} ended with {status}", program.display()));
+        return Err(format!("{name} ended with {status}"));
     }
     Ok(output)
 }

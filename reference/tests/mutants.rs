@@ -1,21 +1,21 @@
 //! The generated lists tell every wrong version from the right one. A wrong
-//! version is an edit in `wrong/`: a copy of the sources is edited, compiled
-//! and run. An edit has the form of those in `crates/*/must-fail/`.
+//! version is an edit in `wrong/`.
+
+mod weave;
 
 use reference::claim;
 use reference::compare::{self, check, first_difference, Counts, ANSWERS};
 use reference::generate::numbered;
 use reference::session::run;
-use std::fs;
-use std::path::{Path, PathBuf};
-use std::process::Command;
+use std::io::{self, Write};
 use std::sync::atomic::{AtomicUsize, Ordering};
+use std::sync::OnceLock;
 use std::thread;
+use weave::{edits, Edit, Versions};
 
 const SEED: u64 = 1;
 const LISTS: u64 = 200;
-const ROOT: &str = env!("CARGO_MANIFEST_DIR");
-/// So many versions are compiled and run at a time.
+/// So many versions run at a time.
 const AT_A_TIME: usize = 2;
 /// In an edit: where trains follow the orders of this version, the claim too
 /// must refuse its answers.
@@ -36,129 +36,30 @@ fn lists() -> Vec<List> {
     (0..LISTS).map(list).collect()
 }
 
-/// A copy of the sources in a folder of its own.
-struct Version {
-    folder: PathBuf,
+/// All wrong versions, built once for the tests that run them.
+fn versions() -> Result<&'static Versions, String> {
+    static BUILT: OnceLock<Result<Versions, String>> = OnceLock::new();
+    let built = BUILT.get_or_init(|| Versions::built(&edits()));
+    built.as_ref().map_err(String::clone)
 }
 
-impl Version {
-    fn copied(label: &str) -> Version {
-        let folder = Path::new(env!("CARGO_TARGET_TMPDIR")).join(label);
-        for part in ["src", "src/bin"] {
-            fs::create_dir_all(folder.join(part)).expect("a folder");
-            let files = fs::read_dir(Path::new(ROOT).join(part)).expect("the sources");
-            for file in files.map(|file| file.expect("a file").path()) {
-                if file.is_file() {
-                    let name = file.file_name().expect("a name");
-                    fs::copy(&file, folder.join(part).join(name)).expect("a copy");
-                }
-            }
-        }
-        Version { folder }
-    }
-
-    /// Replaces what the edit says. A `file:` line holds for the pairs of
-    /// `old:` and `new:` after it; other lines are passed over.
-    fn edit(&self, edit: &str) -> Result<(), String> {
-        let (mut file, mut old) = (PathBuf::new(), "");
-        for line in edit.lines() {
-            if let Some(name) = line.strip_prefix("file: ") {
-                file = self.folder.join(name);
-            } else if let Some(text) = line.strip_prefix("old: ") {
-                old = text;
-            } else if let Some(text) = line.strip_prefix("new:") {
-                replace(&file, old, text.strip_prefix(' ').unwrap_or(text))?;
-            }
-        }
-        Ok(())
-    }
-
-    /// Without the optimiser, which takes longer than the lists do.
-    fn compile(&self, words: &[&str]) -> Result<(), String> {
-        let rustc = std::env::var_os("RUSTC").unwrap_or("rustc".into());
-        let output = Command::new(rustc)
-            .args(["--edition", "2021", "--cap-lints", "allow"])
-            .args(["-C", "overflow-checks=off"])
-            .args(words)
-            .env("CARGO_MANIFEST_DIR", ROOT)
-            .current_dir(&self.folder)
-            .output()
-            .map_err(|error| format!("rustc cannot be run: {error}"))?;
-        if !output.status.success() {
-            return Err(String::from_utf8_lossy(&output.stderr).into_owned());
-        }
-        Ok(())
-    }
-
-    fn compile_library(&self) -> Result<(), String> {
-        self.compile(&[
-            "--crate-type",
-            "rlib",
-            "--crate-name",
-            "reference",
-            "src/lib.rs",
-        ])
-    }
-
-    fn program(&self, name: &str) -> Result<PathBuf, String> {
-        let source = format!("src/bin/{name}.rs");
-        self.compile(&["--extern", "reference=libreference.rlib", &source])?;
-        Ok(self.folder.join(name))
-    }
-}
-
-impl Drop for Version {
-    fn drop(&mut self) {
-        // A folder left there harms nobody.
-        let _ = fs::remove_dir_all(&self.folder);
-    }
-}
-
-fn replace(file: &Path, old: &str, new: &str) -> Result<(), String> {
-    let text = fs::read_to_string(file).map_err(|error| format!("{}: {error}", file.display()))?;
-    let times = text.matches(old).count();
-    if old.is_empty() || times != 1 {
-        return Err(format!("{old:?} is {times} times in {}", file.display()));
-    }
-    fs::write(file, text.replace(old, new)).map_err(|error| format!("{}: {error}", file.display()))
-}
-
-struct Edit {
-    label: String,
-    text: String,
-}
-
-fn edits() -> Vec<Edit> {
-    let folder = fs::read_dir(Path::new(ROOT).join("wrong")).expect("the edits");
-    let mut files: Vec<PathBuf> = folder.map(|file| file.expect("a file").path()).collect();
-    files.sort();
-    files
-        .iter()
-        .map(|file| Edit {
-            label: file.file_stem().expect("a name").to_string_lossy().into(),
-            text: fs::read_to_string(file).expect("text"),
-        })
-        .collect()
-}
-
-/// An error where a wrong version passes for the right one.
-fn try_edit(edit: &Edit, lists: &[List]) -> Result<(), String> {
-    let version = Version::copied(&edit.label);
-    version.edit(&edit.text)?;
-    version.compile_library()?;
-    let program = version.program("reference")?;
-    let number = telling_list(&program, lists)?.ok_or("it is not told apart")?;
-    println!("{}: list {number}", edit.label);
-    if edit.text.lines().any(|line| line == BREAKS_CLAIM) && !breaks_claim(&version, &program)? {
+/// Tells which list shows that a wrong version is wrong; an error where it
+/// passes for the right one.
+fn try_edit(edit: &Edit, lists: &[List]) -> Result<usize, String> {
+    let number = telling_list(edit.number, lists)?.ok_or("it is not told apart")?;
+    let breaks = edit.text.lines().any(|line| line == BREAKS_CLAIM);
+    if breaks && !breaks_claim(edit.number)? {
         return Err("the claim holds with it".to_string());
     }
-    Ok(())
+    Ok(number)
 }
 
-/// The first list that is not answered as the right version does.
-fn telling_list(program: &Path, lists: &[List]) -> Result<Option<usize>, String> {
+/// The first list that a version does not answer as the right one does.
+fn telling_list(version: usize, lists: &[List]) -> Result<Option<usize>, String> {
+    let versions = versions()?;
     for (number, list) in lists.iter().enumerate() {
-        let output = compare::run(program, &list.input)?;
+        let mut program = versions.program(version, "reference");
+        let output = compare::run_command(&mut program, &list.input)?;
         if first_difference(&list.right, &output).is_some() {
             return Ok(Some(number));
         }
@@ -168,18 +69,15 @@ fn telling_list(program: &Path, lists: &[List]) -> Result<Option<usize>, String>
 
 /// Whether the claim refuses some answers of a version to lists in which its
 /// own table runs along.
-fn breaks_claim(version: &Version, program: &Path) -> Result<bool, String> {
-    let generate = version.program("generate")?;
+fn breaks_claim(version: usize) -> Result<bool, String> {
+    let versions = versions()?;
     for number in 0..LISTS {
-        let list = Command::new(&generate)
-            .args([SEED.to_string(), number.to_string()])
-            .output()
-            .map_err(|error| format!("generate cannot be run: {error}"))?;
-        if !list.status.success() {
-            return Err(format!("generate ended with {}", list.status));
-        }
-        let output = compare::run(program, &list.stdout)?;
-        if claim::check(&list.stdout, &output).is_err() {
+        let mut generate = versions.program(version, "generate");
+        generate.args([SEED.to_string(), number.to_string()]);
+        let input = compare::run_command(&mut generate, &[])?;
+        let mut program = versions.program(version, "reference");
+        let output = compare::run_command(&mut program, &input)?;
+        if claim::check(&input, &output).is_err() {
             return Ok(true);
         }
     }
@@ -214,25 +112,30 @@ fn right_version_does_not_differ_from_itself() {
 
 /// So it is the edit that makes a wrong version differ.
 #[test]
-fn copy_without_an_edit_does_not_differ() {
-    let version = Version::copied("no_edit");
-    let program = version
-        .compile_library()
-        .and_then(|()| version.program("reference"));
-    let told = program.and_then(|program| telling_list(&program, &lists()));
-    assert_eq!(told, Ok(None));
+fn version_without_an_edit_does_not_differ() {
+    assert_eq!(telling_list(0, &lists()), Ok(None));
 }
 
 #[test]
 fn every_wrong_version_is_told_apart() {
     let (edits, lists) = (edits(), lists());
-    let next = AtomicUsize::new(0);
+    let (next, done) = (AtomicUsize::new(0), AtomicUsize::new(0));
     let work = || {
         let mut unseen = Vec::new();
         while let Some(edit) = edits.get(next.fetch_add(1, Ordering::Relaxed)) {
-            if let Err(why) = try_edit(edit, &lists) {
-                unseen.push(format!("{}: {why}", edit.label));
-            }
+            let told = match try_edit(edit, &lists) {
+                Ok(list) => format!("told by list {list}"),
+                Err(why) => {
+                    unseen.push(format!("{}: {why}", edit.label));
+                    why
+                }
+            };
+            let count = done.fetch_add(1, Ordering::Relaxed) + 1;
+            show(&format!(
+                "{count} of {}, {}: {told}",
+                edits.len(),
+                edit.label
+            ));
         }
         unseen
     };
@@ -244,4 +147,10 @@ fn every_wrong_version_is_told_apart() {
             .collect()
     });
     assert!(unseen.is_empty(), "{}", unseen.join("\n"));
+}
+
+/// Says how far a long test has come, though the output of tests is kept back.
+fn show(line: &str) {
+    // It is news, and no part of the test.
+    let _ = writeln!(io::stderr(), "wrong version {line}");
 }
