@@ -6,8 +6,6 @@ use mathlib.Core.List.{List, _∷_}
 use mathlib.Core.Path.{_≡_, refl, sym, _∙_, ap}
 use native.Mathlib.Nat.{mul-le-mul-left, mul-le-mul-right}
 use native.Mathlib.Omega.{arith}
-use lib.ListN.{length, getD, take}
-use lib.Seq.{length-take-le, getD-take}
 use Rattle.brake.specs.declared.Figures.{Figures}
 use Rattle.brake.specs.declared.FiguresFound.the-variants.{Given}
 use Rattle.brake.specs.Consist.{figuresOf}
@@ -17,7 +15,6 @@ use Rattle.logic.proofs.Rounding.{RoundedDown, RoundedUp}
 use Rattle.logic.proofs.Tests.{by-test}
 use Rattle.motion.specs.Motion.{brakeSpeed, nextLevel, stands, Cycle, brakedCycle, firstCycles, enoughCycles, brakedRun, totalTravel, stoppingDistance}
 use Rattle.caps.specs.Levels.{levelEntry, readCycles, stopRead}
-use Rattle.caps.specs.Search.{longestList, Listed}
 
 -- ---- the entries
 
@@ -85,11 +82,3 @@ read-cycles (suc n) k v i =
 pub read-stop : (k : Figures) (v : ℕ) → stopRead k v ≡ stoppingDistance k v 0
 unfolding stopRead stoppingDistance brakedRun
 read-stop k v = ap totalTravel (read-cycles (enoughCycles k v 0) k v 0 ∙ ap (firstCycles (enoughCycles k v 0) k v) (entry-none k))
-
--- ---- an array that holds the list
-
-pub listed-in : (k : Figures) (list : List ℕ) (n : ℕ) → n ≤ length list → length list ≤ longestList
-    → ((i : ℕ) → i < n → getD list i 0 ≡ levelEntry k i) → Listed k (take n list)
-listed-in k list n within long entry =
-    let count = length-take-le n list within in
-    record { long = omega arith; entry = λ i h. let below : i < n = omega arith in getD-take n list i 0 below ∙ entry i below }

@@ -3,7 +3,6 @@ pub mod Cycles
 pub mod Runs
 pub mod OrderSentences
 pub mod Bounds
-pub mod Summing
 pub mod Domination
 pub mod Greatest
 pub mod Orders

@@ -7,7 +7,6 @@ use Rattle.brake.specs.declared.Figures.{Figures}
 use Rattle.motion.specs.declared.Motion.{Motion}
 use Rattle.motion.specs.declared.Limits.{Limits}
 use Rattle.motion.specs.declared.Order.{Order}
-use Rattle.motion.specs.declared.Offer.{Offer}
 use Rattle.motion.specs.declared.Order.the-variants.{Drive, Brake}
 use Rattle.motion.specs.Motion.{driveTravel, driveSpeed, releasedLevel, brakeTravel, brakeSpeed, nextLevel, stoppingDistance}
 
@@ -34,10 +33,6 @@ stoppingPlace k m = m .head + stoppingDistance k (m .speed) (m .level)
 -- reach
 abbrev pub reach : Figures → Motion → Order → ℕ
 reach k m o = stoppingPlace k (worstCase k m o)
-
--- an order and its reach
-abbrev pub offer : Figures → Motion → Order → Offer
-offer k m o = record { order = o; reach = reach k m o }
 
 -- the reach of cap c is at most the goal: the place that orders are worked out against, the end of authority
 abbrev pub keepsGoal : Figures → ℕ → Motion → ℕ → Bool

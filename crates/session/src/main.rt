@@ -1,5 +1,5 @@
 // The session program: reads calls from standard input and writes one output line for each input line. Thin: everything that matters
-// is in `stream`. No contract can say which bytes `read` and `write` move. So what is read here is what stands in the buffer after a
+// is in `stream` and `stream_code`. No contract can say which bytes `read` and `write` move. So what is read here is what stands in the buffer after a
 // read, and what is written is what `write_answers` and `write_last` require of the bytes that they are given: nothing else writes.
 ghost use mathlib.Core.Path.{_≡_};
 ghost use Prim.Native.Nat.{_*_, _≤_, _<_};
@@ -54,7 +54,7 @@ fn turn(x: Stream, piece: &mut [u8], out: &mut [u8]) -> After
 {
     let got = libc::read(0, piece);
     let n = io::count(got, piece);
-    let fed = stream::feed(x, &piece[..n], out);
+    let fed = stream_code::feed(x, &piece[..n], out);
     let stream = fed.stream;
     let count = fed.count;
     let written = write_answers(x, &piece[..n], &out[..count]);
@@ -109,7 +109,7 @@ fn close(x: Stream, out: &mut [u8]) -> usize
     requires { ⌜ outputWidth ≤ length (now out) ⌝ }
     ensures { λ r. ⌜ take r (now (out .exit)) ≡ lastAnswer (begun x) ⌝ }
 {
-    let f = stream::finish(x, out);
+    let f = stream_code::finish(x, out);
     let n = f.count;
     write_last(x, &out[..n]);
     n
@@ -120,7 +120,7 @@ fn serve(piece: &mut [u8], out: &mut [u8]) -> Served
     requires { ⌜ (0 < length (now piece)) × (outputWidth * length (now piece) ≤ length (now out)) ⌝ }
     ensures { λ r. ⌜ Whole (r .read) (r .ended) (take (r .last) (now (out .exit))) × Stopped (r .ended) (r .written) (r .read) (now (piece .exit)) ⌝ }
 {
-    let r = run(stream::start(), piece, out);
+    let r = run(stream_code::start(), piece, out);
     let read = r.read;
     let ended = r.ended;
     let written = r.written;
@@ -145,7 +145,7 @@ fn serve(piece: &mut [u8], out: &mut [u8]) -> Served
 const PIECE: usize = 4096;
 
 // An output line for each byte of a piece: each may be a line feed.
-const OUT: usize = PIECE * stream::OUTPUT_WIDTH;
+const OUT: usize = PIECE * stream_code::OUTPUT_WIDTH;
 
 fn main() {
     let mut piece = [0u8; PIECE];

@@ -1,4 +1,3 @@
 pub mod Places
 pub mod Trains
-pub mod Ahead
 pub mod Sentences

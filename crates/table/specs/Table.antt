@@ -12,8 +12,6 @@ use Rattle.train.specs.declared.Limit.{Limit}
 use Rattle.train.specs.Record.{trainOf, freshAuthority, freshMarks}
 use Rattle.train.specs.Track.{limitBehind}
 use Rattle.table.specs.declared.Table.{Table}
-use Rattle.table.specs.declared.Found.{Found}
-use Rattle.table.specs.declared.Found.the-variants.{At, Nothing}
 use Rattle.table.specs.declared.Change.{Change}
 use Rattle.table.specs.declared.Change.the-variants.{Stay, Put, Add, DropFirst, Anew}
 
@@ -66,11 +64,6 @@ changed t DropFirst = record { trains = drop 1 (onLine t) ++ (blankTrain ∷ dro
 changed t (Anew σ) = emptyTable σ
 
 -- ---- words of inner contracts
-
--- the train at a place, with its limit
-abbrev pub found : Table → Option ℕ → Found
-found t none = Nothing
-found t (some i) = At i (limitAt t i) (trainAt t i)
 
 -- the table has the place that a change needs
 abbrev pub Fits : Table → Change → Type 0

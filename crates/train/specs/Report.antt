@@ -12,7 +12,6 @@ use Rattle.motion.specs.Bounds.{inBounds}
 use Rattle.calls.specs.declared.Reading.{Reading}
 use Rattle.train.specs.declared.Settings.{Settings}
 use Rattle.train.specs.declared.Train.{Train}
-use Rattle.train.specs.declared.Reported.{Reported}
 use Rattle.train.specs.Record.{same, withPenalty, isBrake}
 
 -- worst case of a train's last order
@@ -68,9 +67,3 @@ computable x = inBounds (x .figures) (x .motion) (orderCap (x .order))
 -- sums within 64 bits on any other table.
 unfoldable pub reportAllowed : Settings → Train → Reading → Bool
 reportAllowed σ x r = computable x && allowed x r && inBounds (x .figures) (motionAfter x r) (σ .limits .traction)
-
--- ---- words of inner contracts
-
--- a record and its reach
-abbrev pub withReach : Train → Reported
-withReach x = record { train = x; reach = reachOf x }

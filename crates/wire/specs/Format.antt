@@ -15,7 +15,6 @@ use Rattle.wire.specs.declared.Scan.{Scan}
 use Rattle.wire.specs.declared.Scan.the-variants.{Blank, Digits, Bad}
 use Rattle.wire.specs.declared.Field.{Field}
 use Rattle.wire.specs.declared.Field.the-variants.{Number, NoNumber}
-use Rattle.wire.specs.declared.Row.{Row}
 
 -- ---- the columns
 
@@ -130,7 +129,3 @@ abbrev pub soFar : Scan → ℕ
 soFar Blank = 0
 soFar (Digits n) = n
 soFar Bad = 0
-
--- a row as the numbers of a line
-abbrev pub rowNumbers : Row → Option (List ℕ)
-rowNumbers r = cond (r .readable) (some (r .numbers)) none

@@ -1,0 +1,167 @@
+// Decides each act of a train on the line: its checks, what it gives and the record after it. Document 01, "Authorities" and "What is turned
+// down".
+ghost use mathlib.Core.Path.{_≡_};
+ghost use Prim.Native.Nat.{_+_, _^_, _<_};
+ghost use Rattle.train.specs.Record.{authorised};
+ghost use Rattle.acts.specs.Acts.{requestInRange, isOld, granted, calledBack, callBackAllowed, holding, mayLeave};
+ghost use Rattle.acts.specs.Decide.{reporting, extending, callingBack, decide as decision, verdict};
+use acts::Verdict;
+use calls::Act;
+use calls::Asked;
+use calls::Reading;
+use calls::Refusal;
+use calls::Values;
+use train::Authority;
+use train::Limit;
+use train::Settings;
+use train::Train;
+
+// ---- extend
+
+// No request longer than the line can be granted, so its length is bounded by the line end.
+fn request_in_range(s: Settings, q: Asked) -> bool
+    ensures { λ r. ⌜ r ≡ requestInRange s q ⌝ }
+{
+    logic::both(
+        ranges::number_in_range(q.number),
+        ranges::in_range(1, s.end, q.length),
+    )
+}
+
+// Refusal 11. The last accepted number itself is not old: it may be a repeat.
+fn is_old(a: Authority, q: Asked) -> bool
+    ensures { λ r. ⌜ r ≡ isOld a q ⌝ }
+{
+    if q.number <= a.start {
+        return true;
+    }
+    q.number < a.number
+}
+
+// A new request is granted: its length is added, and its number is the last accepted one.
+fn grant(x: Train, q: Asked) -> Train
+    requires { ⌜ x .authority .end + q .length < 2 ^ 64 ⌝ }
+    ensures { λ r. ⌜ r ≡ authorised x (granted (x .authority) q) ⌝ }
+{
+    let mut a = x.authority;
+    a.end = a.end + q.length;
+    a.number = q.number;
+    a.asked = q.length;
+    let mut y = x;
+    y.authority = a;
+    y
+}
+
+// ---- call back, hold and lift
+
+// Judged from the reach, and not from the last head: the order given still counts.
+fn call_back_allowed(x: Train, place: u64) -> bool
+    ensures { λ r. ⌜ r ≡ callBackAllowed x place ⌝ }
+{
+    if !train_code::is_computable(x) {
+        return false;
+    }
+    let a = x.authority;
+    let reach = train_code::reach_of(x);
+    ranges::in_range(reach, a.end, place)
+}
+
+// The end moves, and the request number stays, so that a repeat still adds none.
+fn call_back_to(x: Train, place: u64) -> Train
+    ensures { λ r. ⌜ r ≡ calledBack x place ⌝ }
+{
+    let mut a = x.authority;
+    a.end = place;
+    let mut y = x;
+    y.authority = a;
+    y
+}
+
+// Hold and lift: the mark of a hold alone, which the next report reads. A penalty brake stays on.
+fn with_held(x: Train, held: bool) -> Train
+    ensures { λ r. ⌜ r ≡ holding x held ⌝ }
+{
+    let mut s = x.marks;
+    s.held = held;
+    let mut y = x;
+    y.marks = s;
+    y
+}
+
+// ---- what each act comes to
+
+// Report: closes one cycle, and gets the order for the next.
+fn report(s: Settings, x: Train, r: Reading) -> Verdict
+    ensures { λ v. ⌜ v ≡ verdict (reporting s x r) ⌝ }
+{
+    if !train_code::report_allowed(s, x, r) {
+        return Verdict::TurnedDown(Refusal::NotAllowed);
+    }
+    let after = train_code::report_on(s, x, r);
+    let y = after.train;
+    let o = y.order;
+    Verdict::Passed(Values::Ordered(o, after.reach), y)
+}
+
+// Extend: a new number adds its length if the new end is within the limit, and the last accepted one again adds none.
+fn extend(s: Settings, limit: Limit, x: Train, q: Asked) -> Verdict
+    ensures { λ v. ⌜ v ≡ verdict (extending s limit x q) ⌝ }
+{
+    let a = x.authority;
+    let end = a.end;
+    let length = q.length;
+    if !request_in_range(s, q) {
+        return Verdict::TurnedDown(Refusal::BadRequest);
+    }
+    if is_old(a, q) {
+        return Verdict::TurnedDown(Refusal::OldNumber);
+    }
+    if q.number == a.number {
+        if length != a.asked {
+            return Verdict::TurnedDown(Refusal::OtherLength);
+        }
+        return Verdict::Passed(Values::Extended(end, true), x);
+    }
+    if !train_code::within(limit, end, length) {
+        return Verdict::TurnedDown(Refusal::NoTrack);
+    }
+    let y = grant(x, q);
+    let b = y.authority;
+    Verdict::Passed(Values::Extended(b.end, false), y)
+}
+
+// Call back: the end becomes a place from reach to end.
+fn call_back(x: Train, place: u64) -> Verdict
+    ensures { λ v. ⌜ v ≡ verdict (callingBack x place) ⌝ }
+{
+    if !call_back_allowed(x, place) {
+        return Verdict::TurnedDown(Refusal::BadPlace);
+    }
+    Verdict::Passed(Values::Zeros, call_back_to(x, place))
+}
+
+// An act of the train x with this limit. Hold is the emergency message, lift its withdrawal: both act from the next report on.
+pub fn decide(s: Settings, limit: Limit, x: Train, a: Act) -> Verdict
+    ensures { λ v. ⌜ v ≡ verdict (decision s limit x a) ⌝ }
+{
+    match a {
+        Act::Report(r) => report(s, x, r),
+        Act::Extend(q) => extend(s, limit, x, q),
+        Act::CallBack(place) => call_back(x, place),
+        Act::Hold => Verdict::Passed(Values::Zeros, with_held(x, true)),
+        Act::Lift => Verdict::Passed(Values::Zeros, with_held(x, false)),
+    }
+}
+
+// ---- take off
+
+// Refusal 15. Under drive a standing train may start in the coming cycle.
+pub fn may_leave(i: usize, x: Train) -> bool
+    ensures { λ r. ⌜ r ≡ mayLeave i x ⌝ }
+{
+    let k = x.figures;
+    let m = x.motion;
+    let o = x.order;
+    let standing = logic::both(i == 0, motion_code::standing(k, m.speed, m.level));
+    logic::both(standing, train_code::is_brake(o))
+}

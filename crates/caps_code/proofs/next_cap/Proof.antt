@@ -1,0 +1,48 @@
+-- `caps_code::next_cap` meets its contract: whatever it is, the next cap lies between the two.
+-- Assumes nothing.
+use Prim.Native.Nat.{ℕ, _+_, _-_, _*_, _/_, _≤_}
+use native.Mathlib.Nat.{div-le-self, div-mul-le-self, mul-le-mul-left}
+use native.Mathlib.Omega.{arith}
+use borrow.Author.Needs.{needs}
+use Rattle.caps_code.proofs.next_cap.Statement.{statement}
+use Rattle.caps_code.proofs.next_cap.Tie as tie
+
+-- a gap of two or more takes half of it, or more
+half : (a gap : ℕ) → 2 ≤ gap → a / gap * 2 ≤ a
+half a gap h = let part = div-mul-le-self a gap in let more : a / gap * 2 ≤ a / gap * gap = mul-le-mul-left (a / gap) h in omega arith
+
+returns : tie.Need-returns
+returns c = let some = c .before .pre .some in record { above = omega arith; below = omega arith; halves = λ h. omega arith }
+
+add-step : tie.Need-add-step
+add-step c =
+    let a = c .before .args in
+    let part = half (a .over - a .kept) (a .top - a .low) (omega (arith, c .before .pre .some)) in
+    omega arith
+
+add-ahead : tie.Need-add-ahead
+add-ahead c = let a = c .before .args in let part = div-le-self (a .goal - a .kept) ((a .over - a .kept) / (a .top - a .low) + 1) in omega (arith, c .before .pre .beyond)
+
+returns-2 : tie.Need-returns-2
+returns-2 c = let some = c .before .before .pre .some in record { above = omega arith; below = omega arith; halves = λ h. absurd (omega (arith, c .before .if1 .left)) }
+
+returns-3 : tie.Need-returns-3
+returns-3 c = record { above = omega arith; below = omega (arith, c .if2 .left); halves = λ h. absurd (omega (arith, c .before .if1 .left)) }
+
+pub next-cap-spec : {M : Type 1} → statement M
+next-cap-spec =
+    tie.close
+    (tie.spec
+    (λ c. search needs)
+    (λ c. search needs)
+    returns
+    (λ c. search needs)
+    (λ c. search needs)
+    add-step
+    (λ c. search needs)
+    (λ c. search needs)
+    add-ahead
+    (λ c. search needs)
+    returns-2
+    (λ c. search needs)
+    returns-3)

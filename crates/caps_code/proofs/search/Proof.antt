@@ -1,0 +1,49 @@
+-- `caps_code::search` meets its contract.
+-- Assumes nothing.
+use native.Mathlib.Omega.{arith}
+use lib.ListN.{length-take}
+use borrow.Author.Needs.{needs}
+use Rattle.motion.specs.declared.Order.the-variants.{Drive}
+use Rattle.motion.proofs.Bounds.{worst-braking}
+use Rattle.caps_code.proofs.Trials.{none-found}
+use Rattle.caps_code.proofs.search.Statement.{statement}
+use Rattle.caps_code.proofs.search.Tie as tie
+
+list-levels-requires : tie.Need-list-levels-requires
+list-levels-requires c κs =
+    let speed = c .before in
+    let start = speed .before .before in
+    let a = start .args in
+    (rw (speed .drive-speed .ensures) (worst-braking (a .k) (a .m) (Drive (a .high)) (start .pre .0 .bounded)), start .pre .1)
+
+slice-aggregate-trial : tie.Need-slice-aggregate-trial
+slice-aggregate-trial c = simp length-take (omega (arith, c .before .before .before .list-levels .ensures .within))
+
+-- where cap 0 does not keep the goal, none does
+returns : tie.Need-returns
+returns c =
+    let test = c .before in
+    let start = test .before .before .before .before .before .before .before .before .before in
+    let a = start .args in
+    rw (c .offer-of .ensures, none-found (a .k) (a .goal) (a .m) (start .pre .0 .bounded .figures) (a .high) (omega (arith, test .before .trial .ensures, test .if1 .taken)))
+
+slice-aggregate-close-in : tie.Need-slice-aggregate-close-in
+slice-aggregate-close-in c = simp length-take (omega (arith, c .before .before .before .before .before .before .list-levels .ensures .within))
+
+pub search-spec : {M : Type 1} → statement M
+search-spec =
+    tie.close
+    (tie.spec
+    (λ c κs. search needs)
+    list-levels-requires
+    (λ c. search needs)
+    slice-aggregate-trial
+    (λ c κs. search needs)
+    (λ c κs. search needs)
+    (λ c. search needs)
+    returns
+    (λ c. search needs)
+    slice-aggregate-close-in
+    (λ c κs. search needs)
+    (λ c. search needs)
+    (λ c. search needs))

@@ -1,0 +1,24 @@
+-- `line_code::decide_ask` meets its contract.
+-- Assumes nothing.
+use Rattle.line.specs.Decide.{decideOn}
+use borrow.Author.Needs.{needs}
+use Rattle.line_code.proofs.decide_ask.Statement.{statement}
+use Rattle.line_code.proofs.decide_ask.Tie as tie
+
+returns : tie.Need-returns
+unfolding decideOn
+returns c = rw (c .before .before .a .given .1) (c .decide-open .ensures)
+
+returns-2 : tie.Need-returns-2
+returns-2 c = rw (c .before .before .a2 .given .1) (c .decide-call .ensures)
+
+pub decide-ask-spec : {M : Type 1} → statement M
+decide-ask-spec =
+    tie.close
+    (tie.spec
+    (λ c. search needs)
+    (λ c κs. search needs)
+    (λ c. search needs)
+    (λ c κs. search needs)
+    returns
+    returns-2)

@@ -1,0 +1,28 @@
+-- `line_code::decide_call` meets its contract.
+-- Assumes nothing.
+use borrow.Author.Needs.{needs}
+use Rattle.line_code.proofs.decide_call.Statement.{statement}
+use Rattle.line_code.proofs.decide_call.Tie as tie
+
+returns : tie.Need-returns
+returns c = rw (c .before .before .c .given .1) (c .decide-enter .ensures)
+
+returns-2 : tie.Need-returns-2
+returns-2 c = rw (c .before .before .c2 .given .1) (c .decide-own .ensures)
+
+returns-3 : tie.Need-returns-3
+returns-3 c = rw (c .before .before .c3 .given .1) (c .decide-take-off .ensures)
+
+pub decide-call-spec : {M : Type 1} → statement M
+decide-call-spec =
+    tie.close
+    (tie.spec
+    (λ c. search needs)
+    (λ c κs. search needs)
+    (λ c. search needs)
+    (λ c κs. search needs)
+    (λ c. search needs)
+    (λ c κs. search needs)
+    returns
+    returns-2
+    returns-3)
