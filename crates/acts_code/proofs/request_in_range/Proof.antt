@@ -7,7 +7,7 @@ use Rattle.acts_code.proofs.request_in_range.Tie as tie
 
 returns : tie.Need-returns
 unfolding requestInRange
-returns c = cc
+returns c = rw (c .both .ensures, c .before .in-range .ensures, c .before .before .number-in-range .ensures)
 
 pub request-in-range-spec : {M : Type 1} → statement M
 request-in-range-spec =

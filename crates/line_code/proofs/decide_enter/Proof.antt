@@ -22,7 +22,7 @@ given c = sym (c .before .before .figures-for .ensures) ∙ c .k .given .1
 -- id and starting number are tested together
 tested : (c : tie.After-both) → let e = c .before .before .before .before .before .before .before .before .args .e in
     (idInRange (e .id) && startInRange (e .start)) ≡ c .both .result
-tested c = sym (c .both .ensures ∙ (cc))
+tested c = sym (rw (c .both .ensures, c .before .start-in-range .ensures, c .before .before .id-in-range .ensures))
 
 returns-2 : tie.Need-returns-2
 returns-2 c =

@@ -7,7 +7,12 @@ use Rattle.motion_code.proofs.in_bounds.Tie as tie
 
 returns : tie.Need-returns
 unfolding inBounds
-returns c = cc
+returns c =
+    let speed = c .before in
+    let head = speed .before .before in
+    let level = head .before .before in
+    let full = level .before .before in
+    rw (c .both6 .ensures, speed .both5 .ensures, head .both4 .ensures, level .both3 .ensures, full .both2 .ensures, full .before .both .ensures)
 
 pub in-bounds-spec : {M : Type 1} → statement M
 in-bounds-spec =
