@@ -1,6 +1,6 @@
 //! The worked list and the papers' sessions. The checker has computed them from
-//! the pages in `crates/worked/specs`; the gate runs the program on the files.
-//! Page and files have to be the same.
+//! the pages in `crates/worked/specs` and `crates/papers/specs`; the gate runs the
+//! program on the files. Page and files have to be the same.
 
 use std::fs;
 use std::path::PathBuf;
@@ -32,7 +32,7 @@ fn page(file: &str) -> (Vec<String>, Vec<String>) {
 /// Document 01's session, then document 02's.
 #[test]
 fn sessions_are_their_page() {
-    let (inputs, answers) = page("worked/specs/Paper.antt");
+    let (inputs, answers) = page("papers/specs/Paper.antt");
     let printed = |lines: Vec<String>| lines.join("\n") + "\n";
     let calls = concat!(
         include_str!("../../docs/session/calls.txt"),

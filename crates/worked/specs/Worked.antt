@@ -2,8 +2,6 @@
 -- Trains of each load class drive and brake at speed, are extended, called back, held, lifted and taken off, or refused it. Each answer number
 -- comes up. It is computed by the definitions, from bytes to bytes (proofs/Worked: worked-list).
 use Prim.Native.Nat.{ℕ, _-_}
-use Prim.Native.Char.{code}
-use Prim.Native.String.{String, [] as no-text, _∷_ as _then_}
 use mathlib.Core.Bool.{true, false}
 use mathlib.Core.List.{List, [], _∷_, _++_}
 use lib.ListN.{length, replicate}
@@ -15,27 +13,7 @@ use Rattle.train.specs.Record.{trainOf}
 use Rattle.table.specs.Table.{places, blankTrain}
 use Rattle.stream.specs.declared.Session.{Session}
 use Rattle.stream.specs.Session.{session}
-
--- an input line and its answer
-pub record Exchange : Type 0 where
-  pub input : String
-  pub output : String
-
-abbrev pub line : String → String → Exchange
-line i o = record { input = i; output = o }
-
-unfoldable pub bytesOf : String → List ℕ
-bytesOf no-text = []
-bytesOf (c then s) = code c ∷ bytesOf s
-
--- each line with its line feed
-unfoldable pub inputOf : List Exchange → List ℕ
-inputOf [] = []
-inputOf (x ∷ xs) = bytesOf (x .input) ++ (10 ∷ inputOf xs)
-
-unfoldable pub outputOf : List Exchange → List ℕ
-outputOf [] = []
-outputOf (x ∷ xs) = bytesOf (x .output) ++ (10 ∷ outputOf xs)
+use Rattle.papers.specs.Exchanges.{Exchange, line, bytesOf, inputOf, outputOf}
 
 -- the line that the list opens, and the session with these trains on it
 abbrev pub given : Opening

@@ -1,2 +1,2 @@
-// No code: the worked session and the worked list, with what the definitions give for them, in specs/ and proofs/. They stand apart from `session`, whose
-// must-fail edits would compute them again each time.
+// No code: the worked list, with what the definitions give for it, in specs/ and proofs/. It stands apart from `session`, whose must-fail edits
+// would compute it again each time.

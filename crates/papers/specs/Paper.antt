@@ -1,7 +1,7 @@
--- Two sessions of the papers, the files in docs/session. They are computed by the definitions, from bytes to bytes (proofs/Worked:
+-- Two sessions of the papers, the files in docs/session. They are computed by the definitions, from bytes to bytes (proofs/Paper:
 -- worked-session, penalty-session).
 use mathlib.Core.List.{List, [], _∷_}
-use Rattle.worked.specs.Worked.{Exchange, line}
+use Rattle.papers.specs.Exchanges.{Exchange, line}
 
 -- document 01's, with the report that is taken and both call-back examples, as document 02, (i), has it worked out again
 abbrev pub paperSession : List Exchange

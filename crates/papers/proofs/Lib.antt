@@ -1,0 +1,2 @@
+pub mod Ran
+pub mod Paper
