@@ -1,5 +1,5 @@
 -- The worked values are what the definitions give: two tests, computed over the whole tables. Numbers, codes or places exchanged in the
--- definitions and in the code alike are refused here.
+-- definitions are refused here, whatever the code.
 -- Assumes nothing.
 use mathlib.Core.List.{map}
 use mathlib.Core.Path.{_≡_, refl}

@@ -1,5 +1,5 @@
 // No code: the calls on the table of trains. Document 01, "Authorities" and "What is turned down"; document 02, (iii). Each names its caller.
-// It is decided first, and then the table is changed. The functions are in `line_code`.
+// It is decided first, and then the table is changed. The functions are in `line_decide_code` and `line_code`.
 use calls::Answer;
 use table::Change;
 use table::Table;

@@ -1,5 +1,5 @@
 -- Document 01, "Worst-case motion" and "Orders", said a second time: stop travel, reach and the order of a train, in heads, speeds and
--- caps. A definition that is wrong, with code that follows it, is refused here or in Sentences.
+-- caps. A wrong definition is refused here or in Sentences, whatever the code.
 -- Assumes nothing.
 use Prim.Native.Nat.{ℕ, _+_, _*_, _≤_, _<_}
 use mathlib.Core.Bool.{true, false, _&&_}

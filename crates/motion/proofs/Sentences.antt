@@ -1,5 +1,5 @@
 -- Document 01, "Worst-case motion", said a second time: each cycle in sums and products, where the definitions subtract, divide and
--- choose. A definition that is wrong, with code that follows it, is refused here. The laws of one cycle rest on these (Cycles); stop
+-- choose. A wrong definition is refused here, whatever the code. The laws of one cycle rest on these (Cycles); stop
 -- travel and orders are in OrderSentences.
 -- Assumes nothing.
 use Prim.Native.Nat.{ℕ, _+_, _*_, _≤_, _<_}

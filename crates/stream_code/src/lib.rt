@@ -34,8 +34,8 @@ fn decide_line(opened: bool, t: Table, line: &[u8]) -> Decision
 {
     let read = wire_code::read_line(line);
     match read {
-        RequestRead::Read(r) => line_code::decide(opened, t, r),
-        RequestRead::Unreadable => line_code::refuse(Refusal::BadLine),
+        RequestRead::Read(r) => line_decide_code::decide(opened, t, r),
+        RequestRead::Unreadable => line_decide_code::refuse(Refusal::BadLine),
     }
 }
 
@@ -67,7 +67,7 @@ pub fn start() -> Stream
     Stream {
         session: Session {
             opened: false,
-            table: line_code::no_table(),
+            table: line_decide_code::no_table(),
         },
         bytes: [0u8; ROOM],
         count: 0,

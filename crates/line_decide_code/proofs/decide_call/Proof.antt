@@ -1,8 +1,8 @@
--- `line_code::decide_call` meets its contract.
+-- `line_decide_code::decide_call` meets its contract.
 -- Assumes nothing.
 use borrow.Author.Needs.{needs}
-use Rattle.line_code.proofs.decide_call.Statement.{statement}
-use Rattle.line_code.proofs.decide_call.Tie as tie
+use Rattle.line_decide_code.proofs.decide_call.Statement.{statement}
+use Rattle.line_decide_code.proofs.decide_call.Tie as tie
 
 returns : tie.Need-returns
 returns c = rw (c .before .before .c .given .1) (c .decide-enter .ensures)

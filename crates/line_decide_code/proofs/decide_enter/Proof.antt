@@ -1,4 +1,4 @@
--- `line_code::decide_enter` meets its contract.
+-- `line_decide_code::decide_enter` meets its contract.
 -- Assumes nothing.
 use mathlib.Core.Bool.{_&&_}
 use mathlib.Core.Path.{_≡_, sym, _∙_}
@@ -9,8 +9,8 @@ use Rattle.brake.proofs.Consist.{given-length}
 use Rattle.train.specs.Record.{figuresFor}
 use Rattle.line.proofs.Steps.{enter-unfit, enter-fit, enter-bad}
 use borrow.Author.Needs.{needs}
-use Rattle.line_code.proofs.decide_enter.Statement.{statement}
-use Rattle.line_code.proofs.decide_enter.Tie as tie
+use Rattle.line_decide_code.proofs.decide_enter.Statement.{statement}
+use Rattle.line_decide_code.proofs.decide_enter.Tie as tie
 
 returns : tie.Need-returns
 returns c = c .refuse .ensures ∙ sym (enter-unfit _ _ (sym (c .before .before .before .figures-for .ensures) ∙ c .before .enum-told .given .1))

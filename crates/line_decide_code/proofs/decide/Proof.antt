@@ -1,11 +1,11 @@
--- `line_code::decide` meets its contract.
+-- `line_decide_code::decide` meets its contract.
 -- Assumes nothing.
 use mathlib.Core.Path.{sym, _∙_}
 use borrow.Author.Tests.{not-true, not-false}
 use Rattle.line.specs.Decide.{decided}
 use borrow.Author.Needs.{needs}
-use Rattle.line_code.proofs.decide.Statement.{statement}
-use Rattle.line_code.proofs.decide.Tie as tie
+use Rattle.line_decide_code.proofs.decide.Statement.{statement}
+use Rattle.line_decide_code.proofs.decide.Tie as tie
 
 returns : tie.Need-returns
 unfolding decided

@@ -1,8 +1,8 @@
--- `line_code::no_table` meets its contract.
+-- `line_decide_code::no_table` meets its contract.
 -- Assumes nothing.
 use borrow.Author.Needs.{needs}
-use Rattle.line_code.proofs.no_table.Statement.{statement}
-use Rattle.line_code.proofs.no_table.Tie as tie
+use Rattle.line_decide_code.proofs.no_table.Statement.{statement}
+use Rattle.line_decide_code.proofs.no_table.Tie as tie
 
 returns : tie.Need-returns
 returns c = rw (c .empty-table .ensures, c .before .settings-of .ensures)

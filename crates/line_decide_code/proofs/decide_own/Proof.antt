@@ -1,4 +1,4 @@
--- `line_code::decide_own` meets its contract.
+-- `line_decide_code::decide_own` meets its contract.
 -- Assumes nothing.
 use mathlib.Core.Path.{_≡_, sym, ap, _∙_}
 use Rattle.table_code.proofs.Places.{none-found, one-found}
@@ -7,8 +7,8 @@ use Rattle.line.proofs.Steps.{own-unknown, placed, own-found}
 use Rattle.calls.specs.declared.Call.the-variants.{Own}
 use Rattle.calls.specs.declared.Ask.the-variants.{OnTable}
 use borrow.Author.Needs.{needs}
-use Rattle.line_code.proofs.decide_own.Statement.{statement}
-use Rattle.line_code.proofs.decide_own.Tie as tie
+use Rattle.line_decide_code.proofs.decide_own.Statement.{statement}
+use Rattle.line_decide_code.proofs.decide_own.Tie as tie
 
 returns : tie.Need-returns
 returns c = c .refuse .ensures ∙ sym (own-unknown _ _ _ (none-found _ _ (sym (c .before .before .before .find .ensures) ∙ c .before .enum-told .given .1)))

@@ -1,11 +1,11 @@
--- `line_code::decide_open` meets its contract.
+-- `line_decide_code::decide_open` meets its contract.
 -- Assumes nothing.
 use mathlib.Core.Path.{sym, _∙_}
 use borrow.Author.Tests.{not-true, not-false}
 use Rattle.line.proofs.Steps.{open-taken, open-refused}
 use borrow.Author.Needs.{needs}
-use Rattle.line_code.proofs.decide_open.Statement.{statement}
-use Rattle.line_code.proofs.decide_open.Tie as tie
+use Rattle.line_decide_code.proofs.decide_open.Statement.{statement}
+use Rattle.line_decide_code.proofs.decide_open.Tie as tie
 
 returns : tie.Need-returns
 returns c = c .refuse .ensures ∙ sym (open-refused _ (sym (c .before .before .settings-in-range .ensures) ∙ not-true _ (c .before .if1 .taken)))

@@ -1,9 +1,9 @@
--- `line_code::decide_ask` meets its contract.
+-- `line_decide_code::decide_ask` meets its contract.
 -- Assumes nothing.
 use Rattle.line.specs.Decide.{decideOn}
 use borrow.Author.Needs.{needs}
-use Rattle.line_code.proofs.decide_ask.Statement.{statement}
-use Rattle.line_code.proofs.decide_ask.Tie as tie
+use Rattle.line_decide_code.proofs.decide_ask.Statement.{statement}
+use Rattle.line_decide_code.proofs.decide_ask.Tie as tie
 
 returns : tie.Need-returns
 unfolding decideOn

@@ -1,4 +1,4 @@
--- `line_code::decide_take_off` meets its contract.
+-- `line_decide_code::decide_take_off` meets its contract.
 -- Assumes nothing.
 use mathlib.Core.Path.{sym, _∙_}
 use borrow.Author.Tests.{not-true, not-false}
@@ -7,8 +7,8 @@ use Rattle.table.proofs.Places.{FoundAt}
 use Rattle.table_code.proofs.Places.{none-found, one-found}
 use Rattle.line.proofs.Steps.{take-off-unknown, take-off-refused, take-off-taken}
 use borrow.Author.Needs.{needs}
-use Rattle.line_code.proofs.decide_take_off.Statement.{statement}
-use Rattle.line_code.proofs.decide_take_off.Tie as tie
+use Rattle.line_decide_code.proofs.decide_take_off.Statement.{statement}
+use Rattle.line_decide_code.proofs.decide_take_off.Tie as tie
 
 returns : tie.Need-returns
 returns c = c .refuse .ensures ∙ sym (take-off-unknown _ _ (none-found _ _ (sym (c .before .before .before .find .ensures) ∙ c .before .enum-told .given .1)))

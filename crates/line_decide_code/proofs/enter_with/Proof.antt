@@ -1,4 +1,4 @@
--- `line_code::enter_with` meets its contract.
+-- `line_decide_code::enter_with` meets its contract.
 -- Assumes nothing.
 use mathlib.Core.Option.{none}
 use mathlib.Core.Path.{_≡_, sym, _∙_}
@@ -10,8 +10,8 @@ use Rattle.table_code.proofs.Places.{none-found, one-found}
 use Rattle.table.specs.Table.{placeOf, limitAt}
 use Rattle.line.proofs.Steps.{enter-known, enter-full, enter-short, enter-beyond, enter-taken}
 use borrow.Author.Needs.{needs}
-use Rattle.line_code.proofs.enter_with.Statement.{statement}
-use Rattle.line_code.proofs.enter_with.Tie as tie
+use Rattle.line_decide_code.proofs.enter_with.Statement.{statement}
+use Rattle.line_decide_code.proofs.enter_with.Tie as tie
 
 -- the id is not on the line
 absent : (c : tie.After-enum-told2) → let a = c .before .before .before .args in placeOf (a .t) (a .e .id) ≡ none
