@@ -1,5 +1,4 @@
 // No code: the table of trains, 32 places, and its changes. The functions are in `table_code`.
-use train::Limit;
 use train::Settings;
 use train::Train;
 

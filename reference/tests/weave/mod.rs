@@ -10,16 +10,17 @@ use std::process::Command;
 
 const ROOT: &str = env!("CARGO_MANIFEST_DIR");
 
-/// Which version runs. Without it, or with 0, the right one does.
+/// The variable that says which version runs. Without it, or with 0, the right
+/// one does.
 const CHOICE: &str = "WRONG";
 
-/// The module that a copy with several versions has besides.
+/// The module that reads it, in the copy with several versions.
 const CHOOSING: &str = r#"
 use std::sync::OnceLock;
 
 pub fn number() -> usize {
     static NUMBER: OnceLock<usize> = OnceLock::new();
-    *NUMBER.get_or_init(|| match std::env::var("WRONG") {
+    *NUMBER.get_or_init(|| match std::env::var(CHOICE) {
         Ok(number) => number.parse().expect("a number"),
         Err(_) => 0,
     })
@@ -122,9 +123,7 @@ fn differ_within_functions(right: &Sources, edited: &Sources) -> bool {
 }
 
 /// A file with all its versions, each with its number.
-fn woven(right: &str, versions: &[(usize, &str)]) -> String {
-    let right = cut(right);
-    let versions: Vec<(usize, Cut)> = versions.iter().map(|&(n, text)| (n, cut(text))).collect();
+fn woven(right: &Cut, versions: &[(usize, Cut)]) -> String {
     let mut text = right.outside[0].clone();
     for (index, body) in right.bodies.iter().enumerate() {
         let others = versions
@@ -148,14 +147,14 @@ fn woven(right: &str, versions: &[(usize, &str)]) -> String {
 fn woven_together(right: &Sources, versions: &[(usize, Sources)]) -> Sources {
     let mut sources = right.clone();
     for (file, text) in &mut sources {
-        let of_file = |(number, version): &'_ (usize, Sources)| (*number, version[file].clone());
-        let texts: Vec<(usize, String)> = versions.iter().map(of_file).collect();
-        let texts: Vec<(usize, &str)> = texts.iter().map(|(n, text)| (*n, text.as_str())).collect();
-        *text = woven(text, &texts);
+        let of_file = |(number, version): &(usize, Sources)| (*number, cut(&version[file]));
+        let versions: Vec<(usize, Cut)> = versions.iter().map(of_file).collect();
+        *text = woven(&cut(text), &versions);
     }
     let library = sources.entry("src/lib.rs".into()).or_default();
     library.push_str("pub mod wrong;\n");
-    sources.insert("src/wrong.rs".into(), CHOOSING.to_string());
+    let choosing = format!("const CHOICE: &str = {CHOICE:?};\n{CHOOSING}");
+    sources.insert("src/wrong.rs".into(), choosing);
     sources
 }
 
