@@ -18,6 +18,7 @@ use calls::Request;
 use calls::RequestRead;
 use calls::Values;
 
+// The place of the caller, which is the last number of a row.
 const CALLER: usize = ROW - 1;
 
 // ---- answers in numbers
