@@ -30,7 +30,7 @@ use Rattle.calls.specs.Answers.{numbers, numbersOf}
 use Rattle.calls.specs.Requests.{request}
 use Rattle.calls.proofs.Answers.{accepted-0}
 use Rattle.acts.specs.declared.Verdict.{Verdict}
-use Rattle.train.specs.Ranges.{settingsInRange, settingsOf}
+use Rattle.train.specs.Ranges.{settingsInRange}
 use Rattle.train.specs.Record.{trainOf, figuresFor}
 use Rattle.train.specs.Track.{stepsOf}
 use Rattle.acts.specs.Acts.{mayLeave}
@@ -92,7 +92,7 @@ pub open-3 : (o : Opening) → (Offers o → ⊥) → openDecision o ≡ refused
 open-3 o out = by-test (settingsInRange o) (λ e. absurd (out (settings-exactly o .0 e))) (λ e. open-refused o e)
 
 -- "makes a new table with these settings and no train"
-pub open-accepted : (o : Opening) → Offers o → openDecision o ≡ accepted Zeros (Anew (settingsOf o))
+pub open-accepted : (o : Opening) → Offers o → openDecision o ≡ accepted Zeros (Anew o)
 open-accepted o f = open-taken o (settings-exactly o .1 f)
 
 pub opened-with : (o : Opening) (t : Table) → openStep o ≡ outcome (Accepted Zeros) t → Offers o × WorksWith o (t .settings) × (t .count ≡ 0)

@@ -115,7 +115,7 @@ any-request t P refuses does r = go (r .asks) refl
 
 -- ---- open
 
-pub open-taken : (o : Opening) → settingsInRange o ≡ true → openDecision o ≡ accepted Zeros (Anew (settingsOf o))
+pub open-taken : (o : Opening) → settingsInRange o ≡ true → openDecision o ≡ accepted Zeros (Anew o)
 unfolding openDecision firstOf
 open-taken o e = rw (e, openDecision)
 

@@ -23,7 +23,7 @@ use Rattle.calls.specs.declared.Values.{Values}
 use Rattle.calls.specs.declared.Values.the-variants.{Entered, Zeros}
 use Rattle.calls.specs.Checks.{Check, check, firstOf}
 use Rattle.rights.specs.Rights.{mayAsk}
-use Rattle.train.specs.Ranges.{settingsInRange, settingsOf}
+use Rattle.train.specs.Ranges.{settingsInRange}
 use Rattle.train.specs.Record.{figuresFor, entering}
 use Rattle.train.specs.Track.{stepsOf, withinLimit}
 use Rattle.acts.specs.Acts.{mayLeave}
@@ -48,7 +48,7 @@ judged (some r) v c = refused r
 
 -- Open: 3, and a new table with no train
 unfoldable pub openDecision : Opening → Decision
-openDecision o = judged (firstOf (check (not (settingsInRange o)) BadSetting ∷ [])) Zeros (Anew (settingsOf o))
+openDecision o = judged (firstOf (check (not (settingsInRange o)) BadSetting ∷ [])) Zeros (Anew o)
 
 -- Enter: 4, 5, 6, 7. Length and load class out of range are 4 too: they have no figures.
 abbrev pub enterChecks : Table → Entry → List Check

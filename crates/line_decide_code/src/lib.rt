@@ -49,7 +49,7 @@ fn decide_open(o: Opening) -> Decision
     if !train_code::settings_in_range(o) {
         return refuse(Refusal::BadSetting);
     }
-    accept(Values::Zeros, Change::Anew(train_code::settings_of(o)))
+    accept(Values::Zeros, Change::Anew(o))
 }
 
 // Enter: behind the last train, standing.

@@ -12,11 +12,13 @@ use lib.ListN.{length, getD}
 use lib.Seq.{getD-set-other, getD-drop}
 use borrow.Author.Tests.{eqb-true, eqb-false}
 use Rattle.logic.proofs.Tests.{by-test}
+use Rattle.calls.specs.declared.Opening.{Opening}
 use Rattle.train.specs.declared.Train.{Train}
+use Rattle.train.proofs.Records.{WorksWith, settings-given}
 use Rattle.train.proofs.Track.{InLimit}
 use Rattle.train.proofs.Sentences.{limit-of-the-first, limit-behind}
 use Rattle.table.specs.declared.Table.{Table}
-use Rattle.table.specs.declared.Change.the-variants.{Put, Add, DropFirst}
+use Rattle.table.specs.declared.Change.the-variants.{Put, Add, DropFirst, Anew}
 use Rattle.table.specs.Table.{blankTrain, onLine, placeIn, placeOf, trainAt, aheadOf, limitAt, changed}
 use Rattle.table.proofs.Trains.{Sized, line-length, train-on-line, line-without-first}
 
@@ -123,6 +125,10 @@ drop-leaves t sized j below =
     ∙ getD-drop 1 (onLine t) j blankTrain
     ∙ ap (λ (n : ℕ). getD (onLine t) n blankTrain) next
     ∙ sym (train-on-line t (suc j) below)
+
+-- "makes a new table with these settings and no train", whatever table was there
+pub anew-leaves : (t : Table) (o : Opening) → WorksWith o (changed t (Anew o) .settings) × (changed t (Anew o) .count ≡ 0)
+anew-leaves t o = (settings-given o, refl)
 
 -- ---- the limit of each place
 

@@ -9,6 +9,7 @@ use Rattle.motion.specs.declared.Order.the-variants.{Drive}
 use Rattle.train.specs.declared.Settings.{Settings}
 use Rattle.train.specs.declared.Train.{Train}
 use Rattle.train.specs.declared.Limit.{Limit}
+use Rattle.train.specs.Ranges.{settingsOf}
 use Rattle.train.specs.Record.{trainOf, freshAuthority, freshMarks}
 use Rattle.train.specs.Track.{limitBehind}
 use Rattle.table.specs.declared.Table.{Table}
@@ -60,8 +61,8 @@ changed t (Put i x) = record { trains = set (t .trains) i x; settings = t .setti
 changed t (Add x) = record { trains = set (t .trains) (t .count) x; settings = t .settings; count = t .count + 1 }
 -- the first train gone, the others one place nearer the front, and the place of the last blank
 changed t DropFirst = record { trains = drop 1 (onLine t) ++ (blankTrain ∷ drop (t .count) (t .trains)); settings = t .settings; count = t .count - 1 }
--- another table, with no train
-changed t (Anew σ) = emptyTable σ
+-- another table, as it was opened, with no train
+changed t (Anew o) = emptyTable (settingsOf o)
 
 -- ---- words of inner contracts
 
@@ -71,4 +72,4 @@ Fits t Stay = Unit {0}
 Fits t (Put i x) = i < places
 Fits t (Add x) = t .count < places
 Fits t DropFirst = 0 < t .count
-Fits t (Anew σ) = Unit {0}
+Fits t (Anew o) = Unit {0}

@@ -1,4 +1,5 @@
 // No code: the table of trains, 32 places, and its changes. The functions are in `table_code`.
+use calls::Opening;
 use train::Settings;
 use train::Train;
 
@@ -11,11 +12,12 @@ pub struct Table {
     pub count: usize,
 }
 
-// What a call changes: nothing, the record at a place, a train behind the last, the first train gone, or another table with no train.
+// What a call changes: nothing, the record at a place, a train behind the last, the first train gone, or another table with no train, as it
+// was opened.
 pub enum Change {
     Stay,
     Put(usize, Train),
     Add(Train),
     DropFirst,
-    Anew(Settings),
+    Anew(Opening),
 }

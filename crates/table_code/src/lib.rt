@@ -145,7 +145,7 @@ pub fn carry_out(t: Table, c: Change) -> Table
         Change::Put(i, x) => with_train(t, i, x),
         Change::Add(x) => with_last(t, x),
         Change::DropFirst => without_first(t),
-        Change::Anew(s) => empty_table(s),
+        Change::Anew(o) => empty_table(train_code::settings_of(o)),
     }
 }
 

@@ -12,8 +12,8 @@ returns c = c .refuse .ensures ∙ sym (open-refused _ (sym (c .before .before .
 
 returns-2 : tie.Need-returns-2
 returns-2 c =
-    let test = c .before .before in
-    rw (c .accept .ensures, c .before .settings-of .ensures)
+    let test = c .before in
+    rw (c .accept .ensures)
     (sym (open-taken _ (sym (test .before .settings-in-range .ensures) ∙ not-false _ (test .if1 .left))))
 
 pub decide-open-spec : {M : Type 1} → statement M
@@ -23,6 +23,5 @@ decide-open-spec =
     (λ c κs. search needs)
     (λ c κs. search needs)
     returns
-    (λ c κs. search needs)
     (λ c κs. search needs)
     returns-2)
