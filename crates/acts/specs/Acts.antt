@@ -8,7 +8,7 @@ use Rattle.calls.specs.declared.Asked.{Asked}
 use Rattle.train.specs.declared.Settings.{Settings}
 use Rattle.train.specs.declared.Authority.{Authority}
 use Rattle.train.specs.declared.Train.{Train}
-use Rattle.train.specs.Record.{authorised, marked, withHeld, isBrake}
+use Rattle.train.specs.Record.{authorityTo, endingAt, authorised, marked, withHeld, isBrake}
 use Rattle.train.specs.Report.{reachOf, computable}
 
 -- a request: its number, and its length from 1 to the line end
@@ -25,16 +25,13 @@ isRepeat a q = eqb (q .number) (a .number)
 
 -- Extend: a new number adds the length
 abbrev pub granted : Authority → Asked → Authority
-granted a q = record { end = a .end + q .length; start = a .start; number = q .number; asked = q .length }
+granted a q = authorityTo (a .end + q .length) (a .start) (q .number) (q .length)
 
 -- a repeat changes nothing
 unfoldable pub extended : Train → Asked → Train
 extended x q = cond (isRepeat (x .authority) q) x (authorised x (granted (x .authority) q))
 
--- Call back: the end becomes a named place from reach to end, both included
-abbrev pub endingAt : Authority → ℕ → Authority
-endingAt a place = record { end = place; start = a .start; number = a .number; asked = a .asked }
-
+-- Call back: the end becomes a named place from reach to end, both included. The request number stays.
 abbrev pub calledBack : Train → ℕ → Train
 calledBack x place = authorised x (endingAt (x .authority) place)
 

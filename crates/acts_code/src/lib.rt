@@ -43,12 +43,9 @@ fn grant(x: Train, q: Asked) -> Train
     requires { ⌜ x .authority .end + q .length < 2 ^ 64 ⌝ }
     ensures { λ r. ⌜ r ≡ authorised x (granted (x .authority) q) ⌝ }
 {
-    let mut a = x.authority;
-    a.end = a.end + q.length;
-    a.number = q.number;
-    a.asked = q.length;
+    let a = x.authority;
     let mut y = x;
-    y.authority = a;
+    y.authority = train_code::authority_to(a.end + q.length, a.start, q.number, q.length);
     y
 }
 
@@ -66,14 +63,13 @@ fn call_back_allowed(x: Train, place: u64) -> bool
     ranges::in_range(reach, a.end, place)
 }
 
-// The end moves, and the request number stays, so that a repeat still adds none.
+// The end alone moves.
 fn call_back_to(x: Train, place: u64) -> Train
     ensures { λ r. ⌜ r ≡ calledBack x place ⌝ }
 {
-    let mut a = x.authority;
-    a.end = place;
+    let a = x.authority;
     let mut y = x;
-    y.authority = a;
+    y.authority = train_code::ending_at(a, place);
     y
 }
 

@@ -74,11 +74,18 @@ pub record Told : Type 0 where
 abbrev pub stateOf : ℕ → ℕ → ℕ → Order → Authority → Counts → State
 stateOf h v l o a n = record { head = h; speed = v; level = l; order = o; authority = a; counts = n }
 
+-- the track that a train is lent, up to the end e: s is the starting number of its stay, n the last accepted one, and l its length
+abbrev pub lent : ℕ → ℕ → ℕ → ℕ → Authority
+lent e s n l = record { end = e; start = s; number = n; asked = l }
+
 -- Enter is answered with B and j. The train stands at its head under full brake and has no other track. Nothing is counted.
 abbrev pub toldEntering : Entry → Numbers → Told
 toldEntering e r =
-    let a : Authority = record { end = e .head; start = e .start; number = e .start; asked = 0 } in
-    record { entry = e; figures = record { full = r .first; growth = r .second }; now = stateOf (e .head) 0 (r .first) Brake a freshCounts }
+    record {
+      entry = e;
+      figures = record { full = r .first; growth = r .second };
+      now = stateOf (e .head) 0 (r .first) Brake (lent (e .head) (e .start) (e .start) 0) freshCounts;
+    }
 
 -- 0 after a driven cycle, the next level after a braked one
 abbrev pub levelAfter : Figures → Order → ℕ → ℕ
@@ -99,7 +106,11 @@ brakedAfter false (Drive c) n = Option·map suc n
 -- a new number adds its length, and the last one again adds none
 abbrev pub longer : Authority → Asked → Authority
 longer a q =
-    cond (eqb (q .number) (a .number)) a (record { end = a .end + q .length; start = a .start; number = q .number; asked = q .length })
+    cond (eqb (q .number) (a .number)) a (lent (a .end + q .length) (a .start) (q .number) (q .length))
+
+-- a call back lends it up to another end
+abbrev pub upTo : Authority → ℕ → Authority
+upTo a p = lent p (a .start) (a .number) (a .asked)
 
 -- another authority, or other counts
 abbrev pub still : State → Authority → Counts → State
@@ -112,8 +123,7 @@ toldAct k s n (Report r) =
     stateOf (r .head) (r .speed) level (orderIn n) (s .authority)
     (record { held = Option·map suc (s .counts .held); braked = brakedAfter (stands k (r .speed) level) (orderIn n) (s .counts .braked) })
 toldAct k s n (Extend q) = still s (longer (s .authority) q) (s .counts)
-toldAct k s n (CallBack p) =
-    still s (record { end = p; start = s .authority .start; number = s .authority .number; asked = s .authority .asked }) (s .counts)
+toldAct k s n (CallBack p) = still s (upTo (s .authority) p) (s .counts)
 -- held already, it goes on counting
 toldAct k s n Hold = still s (s .authority) (record { held = some (Option·getD (s .counts .held) 0); braked = s .counts .braked })
 toldAct k s n Lift = still s (s .authority) (record { held = none; braked = s .counts .braked })

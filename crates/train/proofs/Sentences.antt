@@ -5,7 +5,7 @@ use Prim.Native.Nat.{ℕ, _+_, _*_, _≤_, _<_}
 use mathlib.Core.Bool.{true, false, _&&_}
 use mathlib.Core.Logic.{_⊎_, inl, inr, _↔_}
 use mathlib.Core.Option.{none, some}
-use mathlib.Core.Path.{_≡_}
+use mathlib.Core.Path.{_≡_, refl}
 use native.Mathlib.Omega.{arith}
 use lib.Dec.{leb}
 use borrow.Author.Tests.{le-leb, leb-true, ne-eqb, eqb-false, not-true}
@@ -22,9 +22,10 @@ use Rattle.brake.specs.Consist.{Sound}
 use Rattle.calls.specs.declared.Opening.{Opening}
 use Rattle.calls.specs.declared.Reading.{Reading}
 use Rattle.train.specs.declared.Settings.{Settings}
+use Rattle.train.specs.declared.Authority.{Authority}
 use Rattle.train.specs.declared.Train.{Train}
 use Rattle.train.specs.Ranges.{settingsInRange}
-use Rattle.train.specs.Record.{isBrake}
+use Rattle.train.specs.Record.{freshAuthority, endingAt, isBrake}
 use Rattle.train.specs.Track.{stepsOf, limitBehind}
 use Rattle.train.specs.Report.{worstOf, allowed, moves, mustBrake, orderAfter, isPenalty, ordered}
 use Rattle.train.proofs.Track.{InLimit, limit-first, in-behind, behind-in}
@@ -70,6 +71,16 @@ pub limit-behind : (σ : Settings) (a : Train) (place : ℕ)
     → InLimit (limitBehind σ (some a)) place ↔ (place + σ .safety + 6096000 * a .length ≤ a .motion .head)
 unfolding stepsOf
 limit-behind σ a place = (in-behind σ a place, behind-in σ a place)
+
+-- ---- the authority
+
+-- "end = head ... and a starting request number for this stay"
+pub fresh-authority : (h s : ℕ) → freshAuthority h s ≡ record { end = h; start = s; number = s; asked = 0 }
+fresh-authority h s = refl
+
+-- another end, and nothing else
+pub another-end : (a : Authority) (place : ℕ) → endingAt a place ≡ record { end = place; start = a .start; number = a .number; asked = a .asked }
+another-end a place = refl
 
 -- ---- reports
 

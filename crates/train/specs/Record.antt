@@ -20,9 +20,17 @@ trainOf id l k m o a ms = record { id = id; length = l; figures = k; motion = m;
 abbrev pub figuresFor : Settings → Entry → FiguresFound
 figuresFor σ e = figuresOf (e .load) (e .length)
 
+-- an authority up to the end e, in a stay with the starting number s: n is the last accepted number, and l its length
+abbrev pub authorityTo : ℕ → ℕ → ℕ → ℕ → Authority
+authorityTo e s n l = record { end = e; start = s; number = n; asked = l }
+
 -- Enter: end = head, and a starting request number for this stay; no length has been asked for
 abbrev pub freshAuthority : ℕ → ℕ → Authority
-freshAuthority h s = record { end = h; start = s; number = s; asked = 0 }
+freshAuthority h s = authorityTo h s s 0
+
+-- the same with another end
+abbrev pub endingAt : Authority → ℕ → Authority
+endingAt a place = authorityTo place (a .start) (a .number) (a .asked)
 
 -- not held, and no penalty brake
 abbrev pub freshMarks : Marks

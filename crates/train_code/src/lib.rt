@@ -7,7 +7,7 @@ ghost use Rattle.ranges.specs.Ranges.{greatestLength};
 ghost use Rattle.motion_code.specs.Offers.{offer};
 ghost use Rattle.motion.specs.Bounds.{Bounded};
 ghost use Rattle.train.specs.Ranges.{settingsInRange, settingsOf};
-ghost use Rattle.train.specs.Record.{figuresFor, freshAuthority, freshMarks, entering, isBrake};
+ghost use Rattle.train.specs.Record.{figuresFor, authorityTo, freshAuthority, endingAt, freshMarks, entering, isBrake};
 ghost use Rattle.train.specs.Track.{stepsOf, limitBehind, withinLimit};
 ghost use Rattle.train.specs.Report.{worstOf, reachOf, allowed, motionAfter, moves, mustBrake, orderAfter, isPenalty, ordered, reported, computable, reportAllowed};
 ghost use Rattle.train_code.specs.Report.{withReach};
@@ -110,16 +110,30 @@ pub fn figures_for(s: Settings, e: Entry) -> FiguresFound
     brake::figures_of(e.load, e.length)
 }
 
+// Every authority is made here.
+pub fn authority_to(end: u64, start: u64, number: u64, asked: u64) -> Authority
+    ensures { λ r. ⌜ r ≡ authorityTo end start number asked ⌝ }
+{
+    Authority {
+        end,
+        start,
+        number,
+        asked,
+    }
+}
+
 // No track but what the train stands on, and nothing asked for.
 pub fn fresh_authority(head: u64, start: u64) -> Authority
     ensures { λ r. ⌜ r ≡ freshAuthority head start ⌝ }
 {
-    Authority {
-        end: head,
-        start,
-        number: start,
-        asked: 0,
-    }
+    authority_to(head, start, start, 0)
+}
+
+// Another end, and the request number stays, so that a repeat still adds none.
+pub fn ending_at(a: Authority, place: u64) -> Authority
+    ensures { λ r. ⌜ r ≡ endingAt a place ⌝ }
+{
+    authority_to(place, a.start, a.number, a.asked)
 }
 
 pub fn fresh_marks() -> Marks
