@@ -79,12 +79,12 @@ still-held (some n) = refl
 
 -- ---- an accepted act
 
--- what an act gives, of a train whose end is then `end`
-abbrev pub Within : Settings → ℕ → Values → Type 0
-Within σ end (Entered full growth e) = ⊥
-Within σ end (Ordered o r) = (orderCap o ≤ σ .limits .traction) × (r ≤ end)
-Within σ end (Extended e repeat) = e ≤ end
-Within σ end Zeros = Unit {0}
+-- what an act gives, of a train with this limit
+abbrev pub Within : Settings → Limit → Values → Type 0
+Within σ limit (Entered full growth e) = ⊥
+Within σ limit (Ordered o r) = (orderCap o ≤ σ .limits .traction) × InLimit limit r
+Within σ limit (Extended e repeat) = InLimit limit e
+Within σ limit Zeros = Unit {0}
 
 module _ (σ : Settings) (limit : Limit) (x : Told) (steady : Steady σ limit x) where
   abbrev pub rulingOn : Act → Ruling
@@ -98,7 +98,7 @@ module _ (σ : Settings) (limit : Limit) (x : Told) (steady : Steady σ limit x)
     pub keeps : Steady σ limit (afterAct a)
     -- the head never goes back: the train behind relies on it
     pub onward : x .now .head ≤ afterAct a .now .head
-    pub within : Within σ (rulingOn a .after .authority .end) (rulingOn a .gives)
+    pub within : Within σ limit (rulingOn a .gives)
 
   -- ---- a report
 
@@ -201,18 +201,19 @@ module _ (σ : Settings) (limit : Limit) (x : Told) (steady : Steady σ limit x)
         told = same;
         keeps = record { consist = steady .consist; guarded = rw same g; held-slows = rw same (held-report r allows (x .now .counts .held) refl); braked-slows = rw (same, order-told, level) (count .slows) };
         onward = allowed-head (recordOf x) r allows;
-        within = (g .within .cap, g .reach-in-end);
+        within = (g .within .cap, limit-below limit (g .reach-in-end) (g .end-in-limit));
       }
   act-kept (Extend q) e =
       let last = passed _ _ _ (passed _ _ _ (passed _ _ _ (passed _ _ _ e .1) .1) .1) in
       let a = longer (x .now .authority) q in
       let (limited, more) = extended-end q (eqb (q .number) (x .now .authority .number)) (last .0) in
       let reach = steady .guarded .reach-in-end in
+      let same : recordOf (afterAct (Extend q)) ≡ extended (recordOf x) q = by-test (eqb (q .number) (x .now .authority .number)) (λ e. rw e) (λ e. rw e) in
       record {
-        told = by-test (eqb (q .number) (x .now .authority .number)) (λ e. rw e) (λ e. rw e);
+        told = same;
         keeps = steady-still a (x .now .counts .held) limited (omega arith) (steady .held-slows);
         onward = le-refl _;
-        within = le-refl _;
+        within = subst (λ (y : Train). InLimit limit (y .authority .end)) same limited;
       }
   act-kept (CallBack p) e =
       let (low, high) = call-back-allowed (recordOf x) p (passed _ _ _ e .0) in

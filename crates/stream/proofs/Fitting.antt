@@ -103,20 +103,19 @@ module _ (o : Opening) (t : Table) (opened : openStep o ≡ outcome (Accepted Ze
       let sound = given-sound (e .load) (e .length) k q in
       omega arith
 
-  -- what an act gives is bounded by its settings and the end after it
-  within-shown : (end : ℕ) → end ≤ greatestLineEnd → (v : Values) → Within (left .settings) end v → Shown (Accepted v)
-  within-shown end h (Entered full growth e) w = absurd w
-  within-shown end h (Ordered o r) w = ordered-shown o r (le-trans (w .0) (left-ranges _ t opened rs .traction)) (le-trans (w .1) h)
-  within-shown end h (Extended e repeat) w = extended-shown e repeat (le-trans w h)
-  within-shown end h Zeros w = omega arith
+  -- what an act gives is bounded by the settings and the limit
+  within-shown : (i : ℕ) → i ≤ left .count → (v : Values) → Within (left .settings) (limitAt left i) v → Shown (Accepted v)
+  within-shown i h (Entered full growth e) w = absurd w
+  within-shown i h (Ordered o r) w = ordered-shown o r (le-trans (w .0) (left-ranges _ t opened rs .traction)) (limit-fits i h r (w .1))
+  within-shown i h (Extended e repeat) w = extended-shown e repeat (limit-fits i h e w)
+  within-shown i h Zeros w = omega arith
 
   act-shown : (id i : ℕ) (a : Act) → placeOf left id ≡ some i → firstOf (rulingAt left a i .checks) ≡ none → Shown (Accepted (rulingAt left a i .gives))
   act-shown id i a q e =
       let below = found-below left id i q in
       let p = tells o t opened rs i below in
       let kept = act-kept (left .settings) (limitAt left i) (p .train) (p .steady) a (rw (p .here) at e) in
-      let end = limit-fits i (omega arith) _ (rw (kept .told) at (kept .keeps .guarded .end-in-limit)) in
-      rw (p .here) (within-shown _ end (rulingOn (left .settings) (limitAt left i) (p .train) (p .steady) a .gives) (kept .within))
+      rw (p .here) (within-shown i (omega arith) (rulingOn (left .settings) (limitAt left i) (p .train) (p .steady) a .gives) (kept .within))
 
   call-shown : (c : Call) → Shown (decideOn left (OnTable c) .answer)
   call-shown =
