@@ -23,7 +23,6 @@ use Rattle.train.specs.declared.Limit.{Limit}
 use Rattle.train.proofs.Track.{InLimit, limit-first}
 use Rattle.train.specs.declared.Train.{Train}
 use Rattle.table.specs.declared.Table.{Table}
-use Rattle.calls.specs.declared.Request.{Request}
 use Rattle.calls.specs.declared.Answer.the-variants.{Accepted}
 use Rattle.calls.specs.declared.Values.the-variants.{Zeros}
 use Rattle.ranges.specs.Ranges.{between}
@@ -36,7 +35,7 @@ use Rattle.line.proofs.Steps.{open-made}
 use Rattle.train.proofs.Checks.{allowed-no-worse}
 use Rattle.train.proofs.Sentences.{settings-exactly}
 use Rattle.acts.proofs.Sentences.{call-back-tested}
-use Rattle.safety.specs.History.{history, after, Told, told}
+use Rattle.safety.specs.History.{Deed, history, after, Told, told}
 use Rattle.safety.specs.Claim.{recordOf}
 use Rattle.safety.proofs.Train.{Guarded, guarded-head}
 use Rattle.safety.proofs.Acts.{Steady}
@@ -101,16 +100,16 @@ limits-in-line σ limit (x ∷ xs) (suc i) wider l h =
     let g = l .0 .guarded in
     limits-in-line σ (behind σ x) xs i (wider-end σ _ (recordOf x) g (rw (limit-first σ) at (wider _ (g .end-in-limit)))) (l .2) (omega arith)
 
-module _ (o : Opening) (t : Table) (opened : openStep o ≡ outcome (Accepted Zeros) t) (rs : List Request) where
+module _ (o : Opening) (t : Table) (opened : openStep o ≡ outcome (Accepted Zeros) t) (ds : List Deed) where
   abbrev left : Table
-  left = after t rs
+  left = after t ds
 
   -- a place within the limit at place i is on the line
   pub limit-on-line : (i : ℕ) → i ≤ left .count → (place : ℕ) → InLimit (limitAt left i) place → place ≤ left .settings .end
   limit-on-line i h place limited =
       let σ = settingsOf o in
-      let xs = told (history t rs) in
-      let A = agrees o t opened rs in
+      let xs = told (history t ds) in
+      let A = agrees o t opened ds in
       let count = agrees-count σ xs left A in
       let here = rw (agrees-limit σ xs left A i h) at limited in
       rw (limit-first (left .settings)) at (limits-in-line (left .settings) _ xs i (λ place limit. limit) (A .lined) (omega arith) place here)
@@ -124,8 +123,8 @@ module _ (o : Opening) (t : Table) (opened : openStep o ≡ outcome (Accepted Ze
   pub tells : (i : ℕ) → i < left .count → Tells i
   tells i h =
       let σ = settingsOf o in
-      let xs = told (history t rs) in
-      let A = agrees o t opened rs in
+      let xs = told (history t ds) in
+      let A = agrees o t opened ds in
       let count = agrees-count σ xs left A in
       let p = lined-at (left .settings) _ xs i (A .lined) (omega arith) in
       record {
@@ -141,7 +140,7 @@ module _ (o : Opening) (t : Table) (opened : openStep o ≡ outcome (Accepted Ze
       record { guarded = g; end = limit-on-line i (omega arith) _ (g .end-in-limit) }
 
   pub left-ranges : InRange (left .settings)
-  left-ranges = rw (agrees o t opened rs .settings) (ranges o (open-made o t opened .0))
+  left-ranges = rw (agrees o t opened ds .settings) (ranges o (open-made o t opened .0))
 
   pub always-computable : (i : ℕ) → i < left .count → computable (trainAt left i) ≡ true
   always-computable i h = track-computable (left .settings) left-ranges _ (trainAt left i) (track i h)

@@ -1,4 +1,4 @@
--- Every request, refused or not, keeps the invariant of a table under its history; so every list of requests does.
+-- Every deed, refused or not, keeps the invariant of a table under its history; so every list of deeds does.
 -- Assumes nothing.
 use Prim.Native.Nat.{ℕ}
 use mathlib.Core.Bool.{true}
@@ -47,7 +47,7 @@ use Rattle.line.specs.declared.Decision.{Decision}
 use Rattle.line.specs.Decide.{refused, accepted, enterChecks, rulingAt, decided}
 use Rattle.line.specs.Step.{outcome, carriedOut, openStep}
 use Rattle.line.proofs.Steps.{any-call, any-request, enter-room, open-made}
-use Rattle.safety.specs.History.{Event, history, after, isAccepted, Told, toldEntering, toldCall, toldBy, told}
+use Rattle.safety.specs.History.{Deed, made, answerTo, leftBy, Event, history, after, isAccepted, Told, toldEntering, toldCall, toldBy, told}
 use Rattle.safety.specs.Claim.{recordOf}
 use Rattle.safety.proofs.Train.{guarded-entering}
 use Rattle.safety.proofs.Acts.{Steady}
@@ -56,7 +56,7 @@ use Rattle.safety.proofs.Line.{limitIn, firstLimit, lined-act, lined-en
 use Rattle.safety.proofs.Tables.{Agrees, agrees-count, agrees-train, agrees-limit, agrees-absent, agrees-place}
 
 abbrev pub event : Request → Answer → Event
-event r a = record { request = r; answer = numbersOf a }
+event r a = record { deed = made r; answer = numbersOf a }
 
 module _ (xs : List Told) (r : Request) where
   told-refused : (why : Refusal) → toldBy xs (event r (Refused why)) ≡ xs
@@ -148,18 +148,23 @@ module _ (σ : Settings) (xs : List Told) (t : Table) (A : Agrees σ xs t) where
       any-call t Does
       (record { refuses = λ c why r asks. next-refused r why; enters = next-enter; acts = next-act; leaves = next-off }) c r asks)
 
--- ---- every list of requests
+  -- ---- any deed
 
-agrees-list : (σ : Settings) (rs : List Request) (xs : List Told) (t : Table) → Agrees σ xs t → Agrees σ (foldl toldBy xs (history t rs)) (after t rs)
+  next-deed : (d : Deed) → Agrees σ (toldBy xs (record { deed = d; answer = answerTo t d })) (leftBy t d)
+  next-deed (made r) = next-request r
+
+-- ---- every list of deeds
+
+agrees-list : (σ : Settings) (ds : List Deed) (xs : List Told) (t : Table) → Agrees σ xs t → Agrees σ (foldl toldBy xs (history t ds)) (after t ds)
 unfolding history after
 agrees-list σ [] xs t A = A
-agrees-list σ (r ∷ rs) xs t A = agrees-list σ rs _ _ (next-request σ xs t A r)
+agrees-list σ (d ∷ ds) xs t A = agrees-list σ ds _ _ (next-deed σ xs t A d)
 
 -- on the table that an accepted opening made
-pub agrees : (o : Opening) (t : Table) → openStep o ≡ outcome (Accepted Zeros) t → (rs : List Request)
-    → Agrees (settingsOf o) (told (history t rs)) (after t rs)
+pub agrees : (o : Opening) (t : Table) → openStep o ≡ outcome (Accepted Zeros) t → (ds : List Deed)
+    → Agrees (settingsOf o) (told (history t ds)) (after t ds)
 unfolding told
-agrees o t opened rs =
+agrees o t opened ds =
     let σ = settingsOf o in
     rw (open-made o t opened .1)
-    (agrees-list σ rs [] (emptyTable σ) (record { settings = refl; sized = sized-empty σ; trains = refl; lined = tt }))
+    (agrees-list σ ds [] (emptyTable σ) (record { settings = refl; sized = sized-empty σ; trains = refl; lined = tt }))

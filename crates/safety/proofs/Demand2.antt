@@ -24,7 +24,6 @@ use Rattle.calls.specs.declared.Opening.{Opening}
 use Rattle.calls.specs.declared.Reading.{Reading}
 use Rattle.calls.specs.declared.Asked.{Asked}
 use Rattle.calls.specs.declared.Act.the-variants.{Report, Extend, CallBack, Hold, Lift}
-use Rattle.calls.specs.declared.Request.{Request}
 use Rattle.calls.specs.declared.Call.the-variants.{Own}
 use Rattle.calls.specs.declared.Refusal.the-variants.{NotAllowed, BadRequest, OldNumber, OtherLength, NoTrack, BadPlace}
 use Rattle.calls.specs.declared.Answer.the-variants.{Accepted, Refused}
@@ -44,22 +43,22 @@ use Rattle.table.proofs.Places.{found-below, put-same}
 use Rattle.table.proofs.Sentences.{limit-in-front, limit-further-back}
 use Rattle.line.specs.Step.{outcome, openStep, step}
 use Rattle.line.proofs.Rules.{own-step}
-use Rattle.safety.specs.History.{after}
+use Rattle.safety.specs.History.{Deed, after}
 use Rattle.safety.specs.Claim.{recordOf}
 use Rattle.safety.proofs.Calls.{agrees}
 use Rattle.safety.proofs.Bounds.{tells, always-computable, report-judged}
 
-module _ (o : Opening) (t : Table) (opened : openStep o ≡ outcome (Accepted Zeros) t) (rs : List Request) where
+module _ (o : Opening) (t : Table) (opened : openStep o ≡ outcome (Accepted Zeros) t) (ds : List Deed) where
   abbrev now : Table
-  now = after t rs
+  now = after t ds
 
   -- the table works with the numbers that were opened
   pub works-with : WorksWith o (now .settings)
-  works-with = rw (agrees o t opened rs .settings) (settings-given o)
+  works-with = rw (agrees o t opened ds .settings) (settings-given o)
 
   -- "at most 32 trains"
   pub at-most-32 : now .count ≤ 32
-  at-most-32 = agrees o t opened rs .sized .count
+  at-most-32 = agrees o t opened ds .sized .count
 
   -- ---- "Brake force, application time ... equal the definitions"
 
@@ -67,7 +66,7 @@ module _ (o : Opening) (t : Table) (opened : openStep o ≡ outcome (Accepted Ze
   pub figures : (i : ℕ) → i < now .count → (load : ℕ) × Described load (trainAt now i .length) (trainAt now i .figures)
   unfolding recordOf
   figures i below =
-      let p = tells o t opened rs i below in
+      let p = tells o t opened ds i below in
       rw (p .here) (p .train .entry .load, figures-exactly _ _ _ .0 (p .steady .consist))
 
   -- ---- a train on the line
@@ -80,7 +79,7 @@ module _ (o : Opening) (t : Table) (opened : openStep o ≡ outcome (Accepted Ze
     below = found-below now id i found
 
     sound : Sound (x .figures)
-    sound = let p = tells o t opened rs i below in rw (p .here) (p .steady .guarded .figures)
+    sound = let p = tells o t opened ds i below in rw (p .here) (p .steady .guarded .figures)
 
     -- ---- "order, reach"
 
@@ -106,7 +105,7 @@ module _ (o : Opening) (t : Table) (opened : openStep o ≡ outcome (Accepted Ze
           ≡ outcome (Accepted (Ordered given (reach (x .figures) m given))) (changed now (Put i (same x m given (x .authority) (record { held = x .marks .held; penalty = isPenalty (x .figures) m given }))))
       report-accepted so =
           own-step now id i found (Report r) _
-          (report-answered (now .settings) (limitAt now i) x r (report-judged o t opened rs i below r ∙ report-exactly x r .1 so))
+          (report-answered (now .settings) (limitAt now i) x r (report-judged o t opened ds i below r ∙ report-exactly x r .1 so))
 
       -- brake to a moving train, and nothing else, marks it
       pub penalty-marked : (isPenalty (x .figures) m given ≡ true) ↔ ((given ≡ Brake) × (0 < r .speed))
@@ -212,7 +211,7 @@ module _ (o : Opening) (t : Table) (opened : openStep o ≡ outcome (Accepted Ze
         → let nearer : Authority = record { end = place; start = x .authority .start; number = x .authority .number; asked = x .authority .asked } in
         step now (Own id (CallBack place)) ≡ outcome (Accepted Zeros) (changed now (Put i (same x (x .motion) (x .order) nearer (x .marks))))
     call-back-accepted place low high =
-        own-step now id i found (CallBack place) _ (call-back-moves (now .settings) (limitAt now i) x place (always-computable o t opened rs i below) low high)
+        own-step now id i found (CallBack place) _ (call-back-moves (now .settings) (limitAt now i) x place (always-computable o t opened ds i below) low high)
 
     -- hold and lift are taken always, and change their mark alone: "Lifting a hold does not shorten" a penalty brake
     pub hold-accepted : step now (Own id Hold) ≡ outcome (Accepted Zeros) (changed now (Put i (same x (x .motion) (x .order) (x .authority) (record { held = true; penalty = x .marks .penalty }))))
@@ -235,7 +234,7 @@ module _ (o : Opening) (t : Table) (opened : openStep o ≡ outcome (Accepted Ze
 
   -- the line end as opened, or the safety distance as opened behind the rear of the train ahead
   pub track-first : (place : ℕ) → InLimit (limitAt now 0) place ↔ (place ≤ o .end)
-  track-first place = rw (← (ap (λ s. s .end) (agrees o t opened rs .settings))) (limit-in-front now place)
+  track-first place = rw (← (ap (λ s. s .end) (agrees o t opened ds .settings))) (limit-in-front now place)
 
   pub track-behind : (j place : ℕ) → InLimit (limitAt now (suc j)) place ↔ (place + o .safety + 6096000 * trainAt now j .length ≤ trainAt now j .motion .head)
-  track-behind j place = rw (← (ap (λ s. s .safety) (agrees o t opened rs .settings))) (limit-further-back now j place)
+  track-behind j place = rw (← (ap (λ s. s .safety) (agrees o t opened ds .settings))) (limit-further-back now j place)

@@ -1,4 +1,4 @@
--- Demand 3: after every list of requests on the table that an accepted opening made, the claim holds and the table agrees with it.
+-- Demand 3: after every list of deeds on the table that an accepted opening made, the claim holds and the table agrees with it.
 -- Assumes nothing.
 use Prim.Native.Nat.{ℕ, zero, suc, _≤_}
 use mathlib.Core.Option.{Option, none, some, Option·map}
@@ -13,11 +13,10 @@ use Rattle.train.specs.declared.Limit.{Limit}
 use Rattle.train.specs.Track.{limitBehind}
 use Rattle.train.proofs.Track.{InLimit, limit-first, in-behind}
 use Rattle.table.specs.declared.Table.{Table}
-use Rattle.calls.specs.declared.Request.{Request}
 use Rattle.calls.specs.declared.Answer.the-variants.{Accepted}
 use Rattle.calls.specs.declared.Values.the-variants.{Zeros}
 use Rattle.line.specs.Step.{outcome, openStep}
-use Rattle.safety.specs.History.{history, Told, told, rearOf}
+use Rattle.safety.specs.History.{Deed, history, Told, told, rearOf}
 use Rattle.safety.specs.Claim.{countedReports, Stands, Alone, Separate, Clear, Safe, Claim, recordOf, Demand3}
 use Rattle.safety.proofs.Train.{guarded-head}
 use Rattle.safety.proofs.Acts.{Slowing, Steady}
@@ -85,13 +84,13 @@ safe o ahead limit (x ∷ xs) e l =
     separate none e = end-first o limit x (l .0) e
     separate (some a) e = end-behind o limit x (l .0) a e
 
--- for every accepted opening and every list of requests on the table that it made, by any callers
-pub demand-3 : (o : Opening) (t : Table) → openStep o ≡ outcome (Accepted Zeros) t → (rs : List Request) → Demand3 o t rs
+-- for every accepted opening and every list of deeds on the table that it made, by any callers
+pub demand-3 : (o : Opening) (t : Table) → openStep o ≡ outcome (Accepted Zeros) t → (ds : List Deed) → Demand3 o t ds
 unfolding Claim
-demand-3 o t opened rs =
+demand-3 o t opened ds =
     let σ = settingsOf o in
-    let A = agrees o t opened rs in
-    let xs = told (history t rs) in
+    let A = agrees o t opened ds in
+    let xs = told (history t ds) in
     record {
       claim = safe o none (firstLimit σ) xs refl (subst (λ (ρ : Settings). Lined ρ (firstLimit ρ) xs) (A .settings) (A .lined));
       settings = A .settings;

@@ -1,16 +1,14 @@
--- Repeats, over every list of requests: "the repeat of an accepted one in the same stay adds none". `step` is what a call comes to by a caller with
+-- Repeats, over every list of deeds: "the repeat of an accepted one in the same stay adds none". `step` is what a call comes to by a caller with
 -- the right; one without it leaves the table too (line/proofs/Rights: call-16).
 -- Assumes nothing.
 use Prim.Native.Nat.{ℕ, _≤_, _<_}
-use mathlib.Core.Bool.{true, false}
+use mathlib.Core.Bool.{true}
 use mathlib.Core.List.{List, [], _∷_}
 use mathlib.Core.Logic.{_⊎_, inl, inr}
 use mathlib.Core.Option.{some}
 use mathlib.Core.Path.{_≡_, refl, sym, ap, subst, _∙_}
 use native.Mathlib.Omega.{arith}
-use lib.Dec.{eqb}
 use borrow.Author.Tests.{eq-eqb}
-use Rattle.logic.proofs.Tests.{not-both}
 use Rattle.calls.specs.declared.Opening.{Opening}
 use Rattle.calls.specs.declared.Asked.{Asked}
 use Rattle.calls.specs.declared.Act.{Act}
@@ -23,6 +21,7 @@ use Rattle.calls.specs.declared.Refusal.{Refusal}
 use Rattle.calls.specs.declared.Answer.the-variants.{Accepted}
 use Rattle.calls.specs.declared.Values.the-variants.{Extended, Zeros}
 use Rattle.calls.specs.Answers.{numbersOf}
+use Rattle.calls.specs.Requests.{request}
 use Rattle.train.specs.declared.Train.{Train}
 use Rattle.train.specs.declared.Settings.{Settings}
 use Rattle.acts.specs.declared.Verdict.the-variants.{TurnedDown, Passed}
@@ -37,38 +36,46 @@ use Rattle.line.specs.Decide.{rulingAt}
 use Rattle.line.specs.Step.{outcome, requested, openStep, step}
 use Rattle.line.proofs.Rules.{own-step}
 use Rattle.line.proofs.Stays.{Holds, Keeps, still-holds, sized-step, sized-request, settings-step, settings-request, own-accepted}
-use Rattle.safety.specs.History.{Event, history, after, isAccepted}
+use Rattle.safety.specs.History.{Deed, made, Event, history, after, isAccepted}
 use Rattle.safety.proofs.Calls.{agrees}
 
--- ---- what stays true over a list of requests
+-- ---- what stays true over a list of deeds
 
--- each request keeps it
+-- each deed keeps it
+abbrev KeepsBy : (Train → Type 0) → ℕ → ℕ → Deed → Type 0
+KeepsBy Q id n (made r) = Keeps Q id n (r .asks)
+
 abbrev KeepsAll : (Train → Type 0) → ℕ → List Event → Type 0
 KeepsAll Q id [] = Unit {0}
-KeepsAll Q id (e ∷ es) = Keeps Q id (e .answer .number) (e .request .asks) × KeepsAll Q id es
+KeepsAll Q id (e ∷ es) = KeepsBy Q id (e .answer .number) (e .deed) × KeepsAll Q id es
 
-lasts : (Q : Train → Type 0) (id : ℕ) (rs : List Request) (t : Table) → Sized t → Holds Q id t → KeepsAll Q id (history t rs) → Holds Q id (after t rs)
+lasts : (Q : Train → Type 0) (id : ℕ) (ds : List Deed) (t : Table) → Sized t → Holds Q id t → KeepsAll Q id (history t ds) → Holds Q id (after t ds)
 unfolding history after
 lasts Q id [] t sized h keeps = h
-lasts Q id (r ∷ rs) t sized h keeps =
-    lasts Q id rs (requested true t r .table) (sized-request t sized r) (still-holds Q id t sized h r (keeps .0)) (keeps .1)
+lasts Q id (made r ∷ ds) t sized h keeps =
+    lasts Q id ds (requested true t r .table) (sized-request t sized r) (still-holds Q id t sized h r (keeps .0)) (keeps .1)
 
 -- ---- the present stay
+
+-- the event is an accepted request that asks a, whoever called
+abbrev pub Takes : Ask → Event → Type 0
+Takes a e = (caller : ℕ) × (e .deed ≡ made (request caller a)) × (isAccepted e ≡ true)
+
+takes : (e : Event) (r : Request) (a : Ask) → e .deed ≡ made r → r .asks ≡ a → e .answer .number ≡ 0 → Takes a e
+unfolding isAccepted
+takes e r a is asks zero = (r .caller, is ∙ ap (λ (b : Ask). made (request (r .caller) b)) asks, eq-eqb _ 0 zero)
 
 -- no event takes the train off
 abbrev pub Stays : ℕ → List Event → Type 0
 Stays id [] = Unit {0}
-Stays id (e ∷ es) = (e .request .asks ≡ OnTable (TakeOff id) → isAccepted e ≡ false) × Stays id es
+Stays id (e ∷ es) = (Takes (OnTable (TakeOff id)) e → ⊥) × Stays id es
 
 -- the number n has been accepted in this stay, at the latest as the last one
 abbrev Used : ℕ → Train → Type 0
 Used n x = (x .authority .start < n) × (n ≤ x .authority .number)
 
 module _ (id n : ℕ) where
-  not-off : (j m : ℕ) → (OnTable (TakeOff j) ≡ OnTable (TakeOff id) → eqb m 0 ≡ false) → j ≡ id → m ≡ 0 → ⊥
-  not-off j m off mine zero = not-both (eq-eqb m 0 zero) (off (ap (λ (k : ℕ). OnTable (TakeOff k)) mine))
-
-  used-kept : (c : Ask) (m : ℕ) → (c ≡ OnTable (TakeOff id) → eqb m 0 ≡ false) → Keeps (Used n) id m c
+  used-kept : (c : Ask) (m : ℕ) → (c ≡ OnTable (TakeOff id) → m ≡ 0 → ⊥) → Keeps (Used n) id m c
   used-kept (Open o) m off = tt
   used-kept (OnTable (Enter e)) m off = tt
   used-kept (OnTable (Own j a)) m off = λ mine zero σ limit x passes used.
@@ -77,12 +84,14 @@ module _ (id n : ℕ) where
       let above = used .0 in
       let within = used .1 in
       (omega arith, omega arith)
-  used-kept (OnTable (TakeOff j)) m off = not-off j m off
+  used-kept (OnTable (TakeOff j)) m off = λ mine. off (ap (λ (k : ℕ). OnTable (TakeOff k)) mine)
 
   used-all : (es : List Event) → Stays id es → KeepsAll (Used n) id es
-  unfolding isAccepted
   used-all [] stays = tt
-  used-all (e ∷ es) stays = (used-kept (e .request .asks) (e .answer .number) (stays .0), used-all es (stays .1))
+  used-all (e ∷ es) stays = (go (e .deed) refl, used-all es (stays .1))
+    where
+      go : (d : Deed) → e .deed ≡ d → KeepsBy (Used n) id (e .answer .number) d
+      go (made r) is = used-kept (r .asks) (e .answer .number) (λ asks zero. stays .0 (takes e r _ is asks zero))
 
 -- an extension with a number that was accepted in this stay leaves the whole table
 used-leaves : (t : Table) (id : ℕ) (q : Asked) → Holds (Used (q .number)) id t → step t (Own id (Extend q)) .table ≡ t
@@ -105,7 +114,7 @@ used-leaves t id q h = go (extension-used (t .settings) (limitAt t i) x q (h .so
 -- no event is an accepted extension of the train with another number
 abbrev pub NoOther : ℕ → ℕ → List Event → Type 0
 NoOther id n [] = Unit {0}
-NoOther id n (e ∷ es) = ((p : Asked) → e .request .asks ≡ OnTable (Own id (Extend p)) → isAccepted e ≡ true → p .number ≡ n) × NoOther id n es
+NoOther id n (e ∷ es) = ((p : Asked) → Takes (OnTable (Own id (Extend p))) e → p .number ≡ n) × NoOther id n es
 
 -- q is the last accepted one
 abbrev Last : Asked → Train → Type 0
@@ -123,28 +132,31 @@ module _ (id : ℕ) (q : Asked) where
           subst (Last q) (sym unmoved) last
       go (inr (number, asked)) = (rw (leaves .start) (last .0), number ∙ last .1, asked ∙ last .2)
 
-  last-kept : (c : Ask) (m : ℕ) → (c ≡ OnTable (TakeOff id) → eqb m 0 ≡ false)
-      → ((p : Asked) → c ≡ OnTable (Own id (Extend p)) → eqb m 0 ≡ true → p .number ≡ q .number) → Keeps (Last q) id m c
+  last-kept : (c : Ask) (m : ℕ) → (c ≡ OnTable (TakeOff id) → m ≡ 0 → ⊥)
+      → ((p : Asked) → c ≡ OnTable (Own id (Extend p)) → m ≡ 0 → p .number ≡ q .number) → Keeps (Last q) id m c
   last-kept (Open o) m off same = tt
   last-kept (OnTable (Enter e)) m off same = tt
   last-kept (OnTable (Own j a)) m off same = λ mine zero σ limit x passes last.
-      last-act x (decide σ limit x a .after) a (act-leaves σ limit x a) (λ p e. same p (ap (λ (k : ℕ). OnTable (Own k a)) mine ∙ ap (λ (b : Act). OnTable (Own id b)) e) (eq-eqb m 0 zero)) last
-  last-kept (OnTable (TakeOff j)) m off same = not-off id 0 j m off
+      last-act x (decide σ limit x a .after) a (act-leaves σ limit x a) (λ p e. same p (ap (λ (k : ℕ). OnTable (Own k a)) mine ∙ ap (λ (b : Act). OnTable (Own id b)) e) zero) last
+  last-kept (OnTable (TakeOff j)) m off same = λ mine. off (ap (λ (k : ℕ). OnTable (TakeOff k)) mine)
 
   last-all : (es : List Event) → Stays id es → NoOther id (q .number) es → KeepsAll (Last q) id es
-  unfolding isAccepted
   last-all [] stays other = tt
-  last-all (e ∷ es) stays other = (last-kept (e .request .asks) (e .answer .number) (stays .0) (other .0), last-all es (stays .1) (other .1))
+  last-all (e ∷ es) stays other = (go (e .deed) refl, last-all es (stays .1) (other .1))
+    where
+      go : (d : Deed) → e .deed ≡ d → KeepsBy (Last q) id (e .answer .number) d
+      go (made r) is =
+          last-kept (r .asks) (e .answer .number) (λ asks zero. stays .0 (takes e r _ is asks zero)) (λ p asks zero. other .0 p (takes e r _ is asks zero))
 
-settings-after : (rs : List Request) (t : Table) → after t rs .settings ≡ t .settings
+settings-after : (ds : List Deed) (t : Table) → after t ds .settings ≡ t .settings
 unfolding after
 settings-after [] t = refl
-settings-after (r ∷ rs) t = settings-after rs (requested true t r .table) ∙ settings-request t r
+settings-after (made r ∷ ds) t = settings-after ds (requested true t r .table) ∙ settings-request t r
 
--- ---- over every list of requests
+-- ---- over every list of deeds
 
 -- on the line that an accepted opening made, after the calls `before`, the extension q of the train is called and accepted
-module _ (o : Opening) (t : Table) (opened : openStep o ≡ outcome (Accepted Zeros) t) (before : List Request) (id : ℕ) (q : Asked)
+module _ (o : Opening) (t : Table) (opened : openStep o ≡ outcome (Accepted Zeros) t) (before : List Deed) (id : ℕ) (q : Asked)
     (accepted : numbersOf (step (after t before) (Own id (Extend q)) .answer) .number ≡ 0) where
   abbrev then : Table
   then = after t before
@@ -180,7 +192,7 @@ module _ (o : Opening) (t : Table) (opened : openStep o ≡ outcome (Accepted Ze
       record { place = h .place; found = h .found; so = (above, omega arith) }
 
   -- whatever was called since, in the same stay
-  module _ (since : List Request) (stays : Stays id (history granted since)) where
+  module _ (since : List Deed) (stays : Stays id (history granted since)) where
     abbrev now : Table
     now = after granted since
 

@@ -17,8 +17,8 @@ use Rattle.table.specs.Table.{placeIn, placeOf, aheadOf}
 use Rattle.line.specs.Decide.{openDecision, enterDecision, actDecision, takeOffDecision, decideOn, decided}
 use Rattle.line.specs.Step.{openStep}
 use Rattle.safety.specs.History.{history, isAccepted, toldAct, without, toldCall, toldBy, told, rearOf}
-use Rattle.safety.specs.Worked.{sessionLine, wordsAfter, workedRequests, workedWords}
+use Rattle.safety.specs.Worked.{sessionLine, wordsAfter, workedDeeds, workedWords}
 
-pub worked : wordsAfter sessionLine workedRequests ≡ workedWords
+pub worked : wordsAfter sessionLine workedDeeds ≡ workedWords
 unfolding ceilDiv between carOf fullBrake applicationTime applicationCycles sheetEntry entryFor brakeCycles figuresWith figuresBy figuresOf brakeTravel brakeSpeed nextLevel driveTravel driveSpeed stands brakedCycle firstCycles enoughCycles brakedRun totalTravel stoppingDistance stoppingPlace capFits greatest orderFor inBounds firstOf mayAsk settingsInRange requestInRange stepsOf limitBehind allowed moves mustBrake orderAfter isPenalty reported computable reportAllowed isRepeat extended isOld callBackAllowed mayLeave placeIn placeOf aheadOf openDecision enterDecision actDecision takeOffDecision decideOn decided openStep history isAccepted toldAct without toldCall toldBy told rearOf
 worked = refl

@@ -12,14 +12,13 @@ use Rattle.brake.specs.Consist.{figuresOf}
 use Rattle.motion.specs.Motion.{stands}
 use Rattle.motion.specs.Count.{cyclesToStand}
 use Rattle.calls.specs.declared.Opening.{Opening}
-use Rattle.calls.specs.declared.Request.{Request}
 use Rattle.train.specs.declared.Train.{Train}
 use Rattle.train.specs.Ranges.{settingsOf}
 use Rattle.train.specs.Record.{trainOf}
 use Rattle.train.specs.Track.{stepsOf}
 use Rattle.table.specs.declared.Table.{Table}
 use Rattle.table.specs.Table.{onLine}
-use Rattle.safety.specs.History.{Event, history, after, Told, told, rearOf}
+use Rattle.safety.specs.History.{Deed, Event, history, after, Told, told, rearOf}
 
 -- the reports that document 01 counts: 1 + B/j + V/B, both rounded up
 abbrev pub countedReports : Opening → Told → ℕ
@@ -63,10 +62,10 @@ recordOf x =
     trainOf (x .entry .id) (x .entry .length) (x .figures) (record { head = x .now .head; speed = x .now .speed; level = x .now .level })
     (x .now .order) (x .now .authority) (record { held = isSome (x .now .counts .held); penalty = isSome (x .now .counts .braked) })
 
--- Demand 3 for one list of requests on the table t that the opening o made: the claim holds of the history, and the table after it is what
+-- Demand 3 for one list of deeds on the table t that the opening o made: the claim holds of the history, and the table after it is what
 -- the history tells (proofs/Demand3: demand-3).
-pub record Demand3 (o : Opening) (t : Table) (rs : List Request) : Type 0 where
-  pub claim : Claim o (history t rs)
-  pub settings : after t rs .settings ≡ settingsOf o
-  pub count : after t rs .count ≡ length (told (history t rs))
-  pub trains : onLine (after t rs) ≡ map recordOf (told (history t rs))
+pub record Demand3 (o : Opening) (t : Table) (ds : List Deed) : Type 0 where
+  pub claim : Claim o (history t ds)
+  pub settings : after t ds .settings ≡ settingsOf o
+  pub count : after t ds .count ≡ length (told (history t ds))
+  pub trains : onLine (after t ds) ≡ map recordOf (told (history t ds))

@@ -23,19 +23,31 @@ use Rattle.train.specs.Track.{stepsOf}
 use Rattle.table.specs.declared.Table.{Table}
 use Rattle.line.specs.Step.{requested}
 
--- a request with its answer: the number and the three values
+-- what may stand in a list on an opened line: a request that is made
+pub data Deed : Type 0 where
+  made : Request → Deed
+
+-- its answer: the number and the three values
+abbrev pub answerTo : Table → Deed → Numbers
+answerTo t (made r) = numbersOf (requested true t r .answer)
+
+-- the table after it
+abbrev pub leftBy : Table → Deed → Table
+leftBy t (made r) = requested true t r .table
+
+-- a deed with its answer
 pub record Event : Type 0 where
-  pub request : Request
+  pub deed : Deed
   pub answer : Numbers
 
--- requests on an opened line, each on the table that the one before it left: the history, oldest first, and the table after them
-unfoldable pub history : Table → List Request → List Event
+-- deeds on an opened line, each on the table that the one before it left: the history, oldest first, and the table after them
+unfoldable pub history : Table → List Deed → List Event
 history t [] = []
-history t (r ∷ rs) = record { request = r; answer = numbersOf (requested true t r .answer) } ∷ history (requested true t r .table) rs
+history t (d ∷ ds) = record { deed = d; answer = answerTo t d } ∷ history (leftBy t d) ds
 
-unfoldable pub after : Table → List Request → Table
+unfoldable pub after : Table → List Deed → Table
 after t [] = t
-after t (r ∷ rs) = after (requested true t r .table) rs
+after t (d ∷ ds) = after (leftBy t d) ds
 
 -- answer 0 is acceptance
 unfoldable pub isAccepted : Event → Bool
@@ -148,9 +160,13 @@ toldCall xs n (OnTable (Enter e)) = xs ++ (toldEntering e n ∷ [])
 toldCall xs n (OnTable (Own id a)) = map (toldOwn id n a) xs
 toldCall xs n (OnTable (TakeOff id)) = without id xs
 
--- after an event; a refused call tells nothing
+-- after an accepted deed with its answer
+abbrev pub toldDeed : List Told → Numbers → Deed → List Told
+toldDeed xs n (made r) = toldCall xs n (r .asks)
+
+-- after an event; a refused deed tells nothing
 unfoldable pub toldBy : List Told → Event → List Told
-toldBy xs e = cond (isAccepted e) (toldCall xs (e .answer) (e .request .asks)) xs
+toldBy xs e = cond (isAccepted e) (toldDeed xs (e .answer) (e .deed)) xs
 
 -- what a history tells; the train ahead is the one before in this list
 unfoldable pub told : List Event → List Told

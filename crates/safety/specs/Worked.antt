@@ -1,4 +1,4 @@
--- Worked examples: a list of requests for the words of demand 3 (proofs/Worked: worked), and histories that no controller may have, since the
+-- Worked examples: a list of deeds for the words of demand 3 (proofs/Worked: worked), and histories that no controller may have, since the
 -- claim does not hold of them (proofs/Refuted).
 use Prim.Native.Nat.{ℕ}
 use mathlib.Core.Option.{Option, none, some}
@@ -12,7 +12,7 @@ use Rattle.calls.specs.declared.Request.{Request}
 use Rattle.calls.specs.Answers.{numbers}
 use Rattle.calls.specs.Requests.{request}
 use Rattle.line.specs.Step.{openStep}
-use Rattle.safety.specs.History.{Event, history, Told, told, rearOf}
+use Rattle.safety.specs.History.{Deed, made, Event, history, Told, told, rearOf}
 use Rattle.safety.specs.Claim.{countedReports}
 
 -- the yard, 70,000: enter, take off
@@ -44,37 +44,37 @@ sessionLine = record { end = 200000000000; safety = 8000000000; ceiling = 268224
 -- goes on after the lift and with more track. Train 9 is braked while it moves too, but stands afterwards. It is held, lifted and held twice: the
 -- reports count from the first hold after the lift. Its taking off (15) and its report beyond the worst case (9) are refused and count nowhere. So
 -- are a hold of train 7 by the yard, a report of train 9 for train 7 (16) and an opening (2).
-abbrev pub workedRequests : List Request
-workedRequests =
-    enter 7 14295120000 2345 1 0
-    ∷ hold 7
-    ∷ report 7 14295120000 0
-    ∷ takeOff 7
-    ∷ enter 7 24295120000 2345 2 5
-    ∷ extend 7 6 1000000000
-    ∷ report 7 24295120000 0
-    ∷ hold 7
-    ∷ report 7 24295123726 3726
-    ∷ lift 7
-    ∷ extend 7 7 1
-    ∷ report 7 24295131000 3000
-    ∷ request 70000 (OnTable (Own 7 Hold))
-    ∷ request 9 (OnTable (Own 7 (Report (record { head = 24295131000; speed = 0 }))))
-    ∷ request 0 (Open sessionLine)
-    ∷ enter 9 1000000000 100 3 0
-    ∷ takeOff 9
-    ∷ extend 9 1 100000000
-    ∷ report 9 1000000000 0
-    ∷ hold 9
-    ∷ report 9 1000003726 3726
-    ∷ lift 9
-    ∷ hold 9
-    ∷ report 9 1000003726 0
-    ∷ hold 9
-    ∷ report 9 1000003727 0
-    ∷ extend 9 3 500
-    ∷ extend 9 3 500
-    ∷ report 9 1000003726 0
+abbrev pub workedDeeds : List Deed
+workedDeeds =
+    made (enter 7 14295120000 2345 1 0)
+    ∷ made (hold 7)
+    ∷ made (report 7 14295120000 0)
+    ∷ made (takeOff 7)
+    ∷ made (enter 7 24295120000 2345 2 5)
+    ∷ made (extend 7 6 1000000000)
+    ∷ made (report 7 24295120000 0)
+    ∷ made (hold 7)
+    ∷ made (report 7 24295123726 3726)
+    ∷ made (lift 7)
+    ∷ made (extend 7 7 1)
+    ∷ made (report 7 24295131000 3000)
+    ∷ made (request 70000 (OnTable (Own 7 Hold)))
+    ∷ made (request 9 (OnTable (Own 7 (Report (record { head = 24295131000; speed = 0 })))))
+    ∷ made (request 0 (Open sessionLine))
+    ∷ made (enter 9 1000000000 100 3 0)
+    ∷ made (takeOff 9)
+    ∷ made (extend 9 1 100000000)
+    ∷ made (report 9 1000000000 0)
+    ∷ made (hold 9)
+    ∷ made (report 9 1000003726 3726)
+    ∷ made (lift 9)
+    ∷ made (hold 9)
+    ∷ made (report 9 1000003726 0)
+    ∷ made (hold 9)
+    ∷ made (report 9 1000003727 0)
+    ∷ made (extend 9 3 500)
+    ∷ made (extend 9 3 500)
+    ∷ made (report 9 1000003726 0)
     ∷ []
 
 pub record Words : Type 0 where
@@ -100,8 +100,8 @@ wordsOf x =
       braked = x .now .counts .braked;
     }
 
-abbrev pub wordsAfter : Opening → List Request → List Words
-wordsAfter o rs = map wordsOf (told (history (openStep o .table) rs))
+abbrev pub wordsAfter : Opening → List Deed → List Words
+wordsAfter o ds = map wordsOf (told (history (openStep o .table) ds))
 
 abbrev pub workedWords : List Words
 workedWords =
@@ -113,7 +113,7 @@ workedWords =
 
 -- an accepted request with its three values
 abbrev pub said : Request → ℕ → ℕ → ℕ → Event
-said r a b d = record { request = r; answer = numbers 0 a b d }
+said r a b d = record { deed = made r; answer = numbers 0 a b d }
 
 -- the session's train
 abbrev pub loadedEnters : Event

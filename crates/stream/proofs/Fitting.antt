@@ -23,7 +23,6 @@ use Rattle.calls.specs.declared.Act.{Act}
 use Rattle.calls.specs.declared.Call.{Call}
 use Rattle.calls.specs.declared.Ask.{Ask}
 use Rattle.calls.specs.declared.Ask.the-variants.{Open, OnTable}
-use Rattle.calls.specs.declared.Request.{Request}
 use Rattle.calls.specs.declared.RequestRead.{RequestRead}
 use Rattle.calls.specs.declared.RequestRead.the-variants.{Read, Unreadable}
 use Rattle.calls.specs.declared.Refusal.{Refusal}
@@ -57,7 +56,7 @@ use Rattle.wire.proofs.RoundTrip.{Fits, answer-read}
 use Rattle.stream.specs.declared.Session.{Session}
 use Rattle.stream.specs.Session.{session, closed, lineDecision, answered}
 use Rattle.stream.specs.Input.{after}
-use Rattle.stream.specs.Demand3.{requestsIn, Opened}
+use Rattle.stream.specs.Demand3.{deedsIn, Opened}
 use Rattle.stream.proofs.Safe.{session-safe}
 
 -- ---- answers
@@ -86,13 +85,13 @@ extended-shown e false h = omega arith
 
 -- ---- a call on a table that calls left
 
-module _ (o : Opening) (t : Table) (opened : openStep o ≡ outcome (Accepted Zeros) t) (rs : List Request) where
+module _ (o : Opening) (t : Table) (opened : openStep o ≡ outcome (Accepted Zeros) t) (ds : List History.Deed) where
   abbrev left : Table
-  left = History.after t rs
+  left = History.after t ds
 
   -- a place within the limit of the train at place i, or of one that enters there
   limit-fits : (i : ℕ) → i ≤ left .count → (place : ℕ) → InLimit (limitAt left i) place → place ≤ greatestLineEnd
-  limit-fits i h place limited = le-trans (limit-on-line o t opened rs i h place limited) (left-ranges o t opened rs .end)
+  limit-fits i h place limited = le-trans (limit-on-line o t opened ds i h place limited) (left-ranges o t opened ds .end)
 
   enter-shown : (e : Entry) (k : Figures) → figuresFor (left .settings) e ≡ Given k → firstOf (enterChecks left e) ≡ none
       → Shown (Accepted (Entered (k .full) (k .growth) (e .head)))
@@ -106,14 +105,14 @@ module _ (o : Opening) (t : Table) (opened : openStep o ≡ outcome (Accepted Ze
   -- what an act gives is bounded by the settings and the limit
   within-shown : (i : ℕ) → i ≤ left .count → (v : Values) → Within (left .settings) (limitAt left i) v → Shown (Accepted v)
   within-shown i h (Entered full growth e) w = absurd w
-  within-shown i h (Ordered o r) w = ordered-shown o r (le-trans (w .0) (left-ranges _ t opened rs .traction)) (limit-fits i h r (w .1))
+  within-shown i h (Ordered o r) w = ordered-shown o r (le-trans (w .0) (left-ranges _ t opened ds .traction)) (limit-fits i h r (w .1))
   within-shown i h (Extended e repeat) w = extended-shown e repeat (limit-fits i h e w)
   within-shown i h Zeros w = omega arith
 
   act-shown : (id i : ℕ) (a : Act) → placeOf left id ≡ some i → firstOf (rulingAt left a i .checks) ≡ none → Shown (Accepted (rulingAt left a i .gives))
   act-shown id i a q e =
       let below = found-below left id i q in
-      let p = tells o t opened rs i below in
+      let p = tells o t opened ds i below in
       let kept = act-kept (left .settings) (limitAt left i) (p .train) (p .steady) a (rw (p .here) at e) in
       rw (p .here) (within-shown i (omega arith) (rulingOn (left .settings) (limitAt left i) (p .train) (p .steady) a .gives) (kept .within))
 
@@ -146,7 +145,7 @@ closed-shown Unreadable = omega arith
 
 all-shown : (ls : List (List ℕ)) → (after closed ls ≡ closed) ⊎ Opened ls → AllShown (after closed ls)
 all-shown ls (inl e) = subst AllShown (sym e) closed-shown
-all-shown ls (inr o) = subst AllShown (sym (o .now)) (opened-shown (o .given) (o .table) (o .accepted) (requestsIn (o .since)))
+all-shown ls (inr o) = subst AllShown (sym (o .now)) (opened-shown (o .given) (o .table) (o .accepted) (deedsIn (o .since)))
 
 -- the answer to the line l after the lines ls
 abbrev pub answerAfter : List (List ℕ) → List ℕ → Numbers

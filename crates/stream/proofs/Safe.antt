@@ -10,7 +10,6 @@ use Rattle.logic.proofs.Tests.{by-test}
 use Rattle.calls.specs.declared.Opening.{Opening}
 use Rattle.calls.specs.declared.Ask.{Ask}
 use Rattle.calls.specs.declared.Ask.the-variants.{Open, OnTable}
-use Rattle.calls.specs.declared.Request.{Request}
 use Rattle.calls.specs.declared.RequestRead.{RequestRead}
 use Rattle.calls.specs.declared.RequestRead.the-variants.{Read, Unreadable}
 use Rattle.calls.specs.Requests.{request}
@@ -22,7 +21,7 @@ use Rattle.line.specs.declared.Decision.{Decision}
 use Rattle.line.specs.Decide.{openDecision, decideOn, decided}
 use Rattle.line.specs.Step.{carriedOut, requested, noTable, openStep}
 use Rattle.line.proofs.Steps.{open-taken, open-refused}
-use Rattle.safety.specs.History.{Event, history}
+use Rattle.safety.specs.History.{Deed, Event, history}
 use Rattle.safety.specs.History as History
 use Rattle.safety.proofs.Calls.{event}
 use Rattle.safety.proofs.Demand3.{demand-3}
@@ -31,7 +30,7 @@ use Rattle.stream.specs.declared.Session.{Session}
 use Rattle.stream.specs.declared.Reply.{Reply}
 use Rattle.stream.specs.Session.{session, closed, lineDecision, replied, answered}
 use Rattle.stream.specs.Input.{after}
-use Rattle.stream.specs.Demand3.{requestIn, requestsIn, eventsIn, Opened}
+use Rattle.stream.specs.Demand3.{deedIn, deedsIn, eventsIn, Opened}
 
 -- the reply to what was read
 abbrev pub repliedTo : Session → RequestRead → Reply
@@ -41,16 +40,16 @@ repliedTo s r = replied s (lineDecision s r)
 
 -- the lines ls leave what their requests leave, and these get the answers of a history
 abbrev Follows : Table → List (List ℕ) → Type 0
-Follows t ls = (after (session true t) ls ≡ session true (History.after t (requestsIn ls))) × (eventsIn (session true t) ls ≡ history t (requestsIn ls))
+Follows t ls = (after (session true t) ls ≡ session true (History.after t (deedsIn ls))) × (eventsIn (session true t) ls ≡ history t (deedsIn ls))
 
 follows : (t : Table) (ls : List (List ℕ)) → Follows t ls
-unfolding after lineDecision requestsIn eventsIn History.after history
+unfolding after lineDecision deedsIn eventsIn History.after history
 follows t [] = (refl, refl)
 follows t (l ∷ ls) = go (lineRead l) (λ u. follows u ls)
   where
     go : (r : RequestRead) → ((u : Table) → Follows u ls)
-        → (after (repliedTo (session true t) r .session) ls ≡ session true (History.after t (requestIn r ++ requestsIn ls)))
-        × (map (λ (q : Request). record { request = q; answer = repliedTo (session true t) r .answer }) (requestIn r) ++ eventsIn (repliedTo (session true t) r .session) ls ≡ history t (requestIn r ++ requestsIn ls))
+        → (after (repliedTo (session true t) r .session) ls ≡ session true (History.after t (deedIn r ++ deedsIn ls)))
+        × (map (λ (d : Deed). record { deed = d; answer = repliedTo (session true t) r .answer }) (deedIn r) ++ eventsIn (repliedTo (session true t) r .session) ls ≡ history t (deedIn r ++ deedsIn ls))
     go (Read r) next =
         let f = next (requested true t r .table) in (f .0, ap (λ (es : List Event). event r (requested true t r .answer) ∷ es) (f .1))
     go Unreadable next = next t
@@ -110,7 +109,7 @@ module _ (l : List ℕ) (ls : List (List ℕ)) where
           opens = opens;
           now = ap (λ (s : Session). after s ls) opens ∙ f .0;
           events = f .1;
-          demand = demand-3 o t accepted (requestsIn ls);
+          demand = demand-3 o t accepted (deedsIn ls);
         }
 
     safe-opening : Safe ls → Safe (l ∷ ls)

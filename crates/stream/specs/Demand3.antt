@@ -6,7 +6,6 @@ use mathlib.Core.Bool.{true}
 use mathlib.Core.List.{List, [], _∷_, _++_, map}
 use Rattle.calls.specs.declared.Opening.{Opening}
 use Rattle.calls.specs.declared.Ask.the-variants.{Open}
-use Rattle.calls.specs.declared.Request.{Request}
 use Rattle.calls.specs.declared.RequestRead.{RequestRead}
 use Rattle.calls.specs.declared.RequestRead.the-variants.{Read, Unreadable}
 use Rattle.calls.specs.declared.Answer.the-variants.{Accepted}
@@ -15,7 +14,7 @@ use Rattle.calls.specs.Requests.{request}
 use Rattle.rights.specs.Rights.{dispatcher}
 use Rattle.table.specs.declared.Table.{Table}
 use Rattle.line.specs.Step.{outcome, openStep}
-use Rattle.safety.specs.History.{Event, history}
+use Rattle.safety.specs.History.{Deed, made, Event, history}
 use Rattle.safety.specs.History as History
 use Rattle.safety.specs.Claim.{Demand3}
 use Rattle.wire.specs.Format.{lineRead}
@@ -23,20 +22,20 @@ use Rattle.stream.specs.declared.Session.{Session}
 use Rattle.stream.specs.Session.{session, closed, answered}
 use Rattle.stream.specs.Input.{after}
 
--- the request that a line makes; an unreadable line makes none
-abbrev pub requestIn : RequestRead → List Request
-requestIn (Read r) = r ∷ []
-requestIn Unreadable = []
+-- what a line does: it makes the request that is read from it; an unreadable line does nothing
+abbrev pub deedIn : RequestRead → List Deed
+deedIn (Read r) = made r ∷ []
+deedIn Unreadable = []
 
-unfoldable pub requestsIn : List (List ℕ) → List Request
-requestsIn [] = []
-requestsIn (l ∷ ls) = requestIn (lineRead l) ++ requestsIn ls
+unfoldable pub deedsIn : List (List ℕ) → List Deed
+deedsIn [] = []
+deedsIn (l ∷ ls) = deedIn (lineRead l) ++ deedsIn ls
 
 -- the same with the answers that the session gives them
 unfoldable pub eventsIn : Session → List (List ℕ) → List Event
 eventsIn s [] = []
 eventsIn s (l ∷ ls) =
-    map (λ (r : Request). record { request = r; answer = answered s l .answer }) (requestIn (lineRead l)) ++ eventsIn (answered s l .session) ls
+    map (λ (d : Deed). record { deed = d; answer = answered s l .answer }) (deedIn (lineRead l)) ++ eventsIn (answered s l .session) ls
 
 -- The lines ls have an accepted opening in them, the dispatcher's. The table is what the requests since then left; the events since then, as
 -- read and as answered, are that history; and demand 3 holds of it.
@@ -51,6 +50,6 @@ pub record Opened (ls : List (List ℕ)) : Type 0 where
   pub opening : lineRead line ≡ Read (request dispatcher (Open given))
   pub accepted : openStep given ≡ outcome (Accepted Zeros) table
   pub opens : answered closed line .session ≡ session true table
-  pub now : after closed ls ≡ session true (History.after table (requestsIn since))
-  pub events : eventsIn (session true table) since ≡ history table (requestsIn since)
-  pub demand : Demand3 given table (requestsIn since)
+  pub now : after closed ls ≡ session true (History.after table (deedsIn since))
+  pub events : eventsIn (session true table) since ≡ history table (deedsIn since)
+  pub demand : Demand3 given table (deedsIn since)
