@@ -97,7 +97,7 @@ module _ (σ : Settings) (limit : Limit) (x : Told) (steady : Steady σ limit x)
     pub told : recordOf (afterAct a) ≡ rulingOn a .after
     pub keeps : Steady σ limit (afterAct a)
     -- the head never goes back: the train behind relies on it
-    pub onward : x .now .head ≤ afterAct a .now .head
+    pub onward : x .now .last .head ≤ afterAct a .now .last .head
     pub within : Within σ limit (rulingOn a .gives)
 
   -- ---- a report

@@ -107,12 +107,11 @@ module _ (o : Opening) (t : Table) (opened : openStep o ≡ outcome (Accepted Ze
   -- a place within the limit at place i is on the line
   pub limit-on-line : (i : ℕ) → i ≤ left .count → (place : ℕ) → InLimit (limitAt left i) place → place ≤ left .settings .end
   limit-on-line i h place limited =
-      let σ = settingsOf o in
-      let xs = told (history t ds) in
+      let l = told o (history t ds) in
       let A = agrees o t opened ds in
-      let count = agrees-count σ xs left A in
-      let here = rw (agrees-limit σ xs left A i h) at limited in
-      rw (limit-first (left .settings)) at (limits-in-line (left .settings) _ xs i (λ place limit. limit) (A .lined) (omega arith) place here)
+      let count = agrees-count o l left A in
+      let here = rw (agrees-limit o l left A i h) at limited in
+      rw (limit-first (left .settings)) at (limits-in-line (left .settings) _ (l .trains) i (λ place limit. limit) (A .lined) (omega arith) place here)
 
   -- the train at place i is one that the history tells of
   pub record Tells (i : ℕ) : Type 0 where
@@ -122,15 +121,14 @@ module _ (o : Opening) (t : Table) (opened : openStep o ≡ outcome (Accepted Ze
 
   pub tells : (i : ℕ) → i < left .count → Tells i
   tells i h =
-      let σ = settingsOf o in
-      let xs = told (history t ds) in
+      let l = told o (history t ds) in
       let A = agrees o t opened ds in
-      let count = agrees-count σ xs left A in
-      let p = lined-at (left .settings) _ xs i (A .lined) (omega arith) in
+      let count = agrees-count o l left A in
+      let p = lined-at (left .settings) _ (l .trains) i (A .lined) (omega arith) in
       record {
         train = p .train;
-        here = agrees-train σ xs left A i h ∙ p .here;
-        steady = rw (agrees-limit σ xs left A i (omega arith)) (p .steady);
+        here = agrees-train o l left A i h ∙ p .here;
+        steady = rw (agrees-limit o l left A i (omega arith)) (p .steady);
       }
 
   pub track : (i : ℕ) → i < left .count → OnTrack (left .settings) (limitAt left i) (trainAt left i)

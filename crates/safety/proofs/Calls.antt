@@ -3,7 +3,7 @@
 use Prim.Native.Nat.{ℕ}
 use mathlib.Core.Bool.{true}
 use mathlib.Core.Option.{none, some}
-use mathlib.Core.List.{List, [], _∷_, foldl, map-append}
+use mathlib.Core.List.{List, [], _∷_, map, foldl, map-append}
 use mathlib.Core.Path.{_≡_, refl, sym, _∙_, subst}
 use native.Mathlib.Nat.{le-refl}
 use native.Mathlib.Omega.{arith}
@@ -30,7 +30,6 @@ use Rattle.calls.specs.Answers.{numbersOf}
 use Rattle.calls.specs.Checks.{firstOf}
 use Rattle.calls.proofs.Answers.{accepted-0, refusal-not-0}
 use Rattle.calls.proofs.Checks.{passed}
-use Rattle.train.specs.declared.Settings.{Settings}
 use Rattle.train.specs.Ranges.{settingsOf}
 use Rattle.train.specs.Record.{figuresFor, entering}
 use Rattle.train.specs.Track.{stepsOf}
@@ -40,42 +39,49 @@ use Rattle.train.proofs.Track.{limit-tested}
 use Rattle.acts.proofs.Checks.{first-leaves}
 use Rattle.table.specs.declared.Table.{Table}
 use Rattle.table.specs.declared.Change.the-variants.{Put, Add, DropFirst}
-use Rattle.table.specs.Table.{emptyTable, placeOf, trainAt, limitAt}
+use Rattle.table.specs.Table.{emptyTable, onLine, placeOf, trainAt, limitAt}
 use Rattle.table.proofs.Places.{found-below, not-found}
-use Rattle.table.proofs.Trains.{sized-empty, line-with, sized-with, line-last, sized-last, line-without-first, sized-without-first}
+use Rattle.table.proofs.Trains.{Sized, sized-empty, line-with, sized-with, line-last, sized-last, line-without-first, sized-without-first}
 use Rattle.line.specs.declared.Decision.{Decision}
 use Rattle.line.specs.Decide.{refused, accepted, enterChecks, rulingAt, decided}
 use Rattle.line.specs.Step.{outcome, carriedOut, openStep}
 use Rattle.line.proofs.Steps.{any-call, any-request, enter-room, open-made}
-use Rattle.safety.specs.History.{Deed, made, answerTo, leftBy, Event, history, after, isAccepted, Told, toldEntering, toldCall, toldBy, told}
+use Rattle.safety.specs.History.{Deed, made, answerTo, leftBy, Event, history, after, isAccepted, Told, toldEntering, Line, opened, withTrains, toldCall, toldBy, told}
 use Rattle.safety.specs.Claim.{recordOf}
 use Rattle.safety.proofs.Train.{guarded-entering}
 use Rattle.safety.proofs.Acts.{Steady}
 use Rattle.safety.proofs.Finding.{IsAt}
-use Rattle.safety.proofs.Line.{limitIn, firstLimit, lined-act, lined-enter, lined-off}
+use Rattle.safety.proofs.Line.{Lined, limitIn, firstLimit, lined-act, lined-enter, lined-off}
 use Rattle.safety.proofs.Tables.{Agrees, agrees-count, agrees-train, agrees-limit, agrees-absent, agrees-place}
 
 abbrev pub event : Request → Answer → Event
 event r a = record { deed = made r; answer = numbersOf a }
 
-module _ (xs : List Told) (r : Request) where
-  told-refused : (why : Refusal) → toldBy xs (event r (Refused why)) ≡ xs
+module _ (l : Line) (r : Request) where
+  told-refused : (why : Refusal) → toldBy l (event r (Refused why)) ≡ l
   unfolding toldBy isAccepted
   told-refused why = rw (refusal-not-0 why)
 
-  told-accepted : (c : Call) (v : Values) → r .asks ≡ OnTable c → toldBy xs (event r (Accepted v)) ≡ toldCall xs (numbersOf (Accepted v)) (OnTable c)
+  told-accepted : (c : Call) (v : Values) → r .asks ≡ OnTable c → toldBy l (event r (Accepted v)) ≡ toldCall l (numbersOf (Accepted v)) (OnTable c)
   unfolding toldBy isAccepted
   told-accepted c v asks = rw (eq-eqb _ 0 (accepted-0 v), asks)
 
-module _ (σ : Settings) (xs : List Told) (t : Table) (A : Agrees σ xs t) where
+module _ (o : Opening) (l : Line) (t : Table) (A : Agrees o l t) where
+  abbrev xs : List Told
+  xs = l .trains
+
   -- the invariant after a request
   abbrev Next : Request → Decision → Type 0
-  Next r d = Agrees σ (toldBy xs (event r (d .answer))) (carriedOut t d .table)
+  Next r d = Agrees o (toldBy l (event r (d .answer))) (carriedOut t d .table)
 
   next-refused : (r : Request) (why : Refusal) → Next r (refused why)
-  next-refused r why =
-      let now = told-refused xs r why in
-      record { settings = A .settings; sized = A .sized; trains = rw now (A .trains); lined = rw now (A .lined) }
+  next-refused r why = rw (told-refused l r why) A
+
+  -- other trains ys on the same line, and the table u with them
+  next-trains : (u : Table) (ys : List Told) → u .settings ≡ t .settings → Sized u → onLine u ≡ map recordOf ys
+      → Lined (u .settings) (firstLimit (u .settings)) ys → Agrees o (withTrains l ys) u
+  next-trains u ys same sized trains lined =
+      record { opening = A .opening; settings = same ∙ A .settings; sized = sized; trains = trains; lined = lined }
 
   -- after one that asks for the call c
   abbrev Does : Call → Decision → Type 0
@@ -88,17 +94,14 @@ module _ (σ : Settings) (xs : List Told) (t : Table) (A : Agrees σ xs t) where
   unfolding toldCall
   next-act id i a f e r asks =
       let below = found-below t id i f in
-      let limit = agrees-limit σ xs t A i (omega arith) in
-      let here = agrees-train σ xs t A i below in
+      let limit = agrees-limit o l t A i (omega arith) in
+      let here = agrees-train o l t A i below in
       let passes = rw (limit, here) at e in
-      let (lined, same) = lined-act (t .settings) id a _ xs i (A .lined) (agrees-place σ xs t A id i f) passes in
-      let now = told-accepted xs r (Own id a) (rulingAt t a i .gives) asks in
-      record {
-        settings = A .settings;
-        sized = sized-with t i _ (A .sized);
-        trains = rw (line-with t i (rulingAt t a i .after) below, A .trains, now, limit, here) (sym same);
-        lined = rw (now, limit, here) lined;
-      }
+      let (lined, same) = lined-act (t .settings) id a _ xs i (A .lined) (agrees-place o l t A id i f) passes in
+      let now = told-accepted l r (Own id a) (rulingAt t a i .gives) asks in
+      rw now
+      (next-trains _ _ refl (sized-with t i _ (A .sized))
+      (rw (line-with t i (rulingAt t a i .after) below, A .trains, limit, here) (sym same)) (rw (limit, here) lined))
 
   -- ---- an entering
 
@@ -110,34 +113,28 @@ module _ (σ : Settings) (xs : List Told) (t : Table) (A : Agrees σ xs t) where
       let room = passed _ _ _ (fresh .1) in
       let place = both (leb (stepsOf (e .length)) (e .head)) _ (not-false _ (passed _ _ _ (room .1) .0)) in
       let free = enter-room t e q in
-      let absent = agrees-absent σ xs t A (e .id) (not-found (placeOf t (e .id)) (fresh .0)) in
-      let limit = rw (agrees-limit σ xs t A (t .count) (le-refl _), agrees-count σ xs t A) at (limit-tested (limitAt t (t .count)) (e .head) (place .1)) in
+      let absent = agrees-absent o l t A (e .id) (not-found (placeOf t (e .id)) (fresh .0)) in
+      let limit = rw (agrees-limit o l t A (t .count) (le-refl _), agrees-count o l t A) at (limit-tested (limitAt t (t .count)) (e .head) (place .1)) in
       let v = Entered (k .full) (k .growth) (e .head) in
-      let now = told-accepted xs r (Enter e) v asks in
+      let now = told-accepted l r (Enter e) v asks in
       let new = toldEntering e (numbersOf (Accepted v)) in
       let steady : Steady (t .settings) (limitIn (t .settings) (firstLimit (t .settings)) xs (length xs)) new =
       record { consist = sym (figures-entered (t .settings) e) ∙ f; guarded = guarded-entering _ _ e k (given-sound (e .load) (e .length) k f) (leb-true _ _ (place .0)) limit; held-slows = tt; braked-slows = tt } in
-      record {
-        settings = A .settings;
-        sized = sized-last t _ (A .sized) free;
-        trains = rw (line-last t (entering e k) (A .sized) free, A .trains, now, map-append);
-        lined = rw now (lined-enter (t .settings) _ xs new (A .lined) absent steady);
-      }
+      rw now
+      (next-trains _ _ refl (sized-last t _ (A .sized) free)
+      (rw (line-last t (entering e k) (A .sized) free, A .trains, map-append)) (lined-enter (t .settings) _ xs new (A .lined) absent steady))
 
   -- ---- a taking off
 
   next-off : (id i : ℕ) → placeOf t id ≡ some i → mayLeave i (trainAt t i) ≡ true → Does (TakeOff id) (accepted Zeros DropFirst)
   unfolding toldCall
   next-off id i f may r asks =
-      let place = subst (IsAt id xs) (first-leaves i (trainAt t i) may) (agrees-place σ xs t A id i f) in
+      let place = subst (IsAt id xs) (first-leaves i (trainAt t i) may) (agrees-place o l t A id i f) in
       let (lined, same) = lined-off (t .settings) id xs (A .lined) place in
-      let now = told-accepted xs r (TakeOff id) Zeros asks in
-      record {
-        settings = A .settings;
-        sized = sized-without-first t (A .sized) (let below = found-below t id i f in omega arith);
-        trains = rw (line-without-first t (A .sized), A .trains, now) (sym same);
-        lined = rw now lined;
-      }
+      let now = told-accepted l r (TakeOff id) Zeros asks in
+      rw now
+      (next-trains _ _ refl (sized-without-first t (A .sized) (let below = found-below t id i f in omega arith))
+      (rw (line-without-first t (A .sized), A .trains) (sym same)) lined)
 
   -- ---- any request
 
@@ -150,21 +147,21 @@ module _ (σ : Settings) (xs : List Told) (t : Table) (A : Agrees σ xs t) where
 
   -- ---- any deed
 
-  next-deed : (d : Deed) → Agrees σ (toldBy xs (record { deed = d; answer = answerTo t d })) (leftBy t d)
+  next-deed : (d : Deed) → Agrees o (toldBy l (record { deed = d; answer = answerTo t d })) (leftBy t d)
   next-deed (made r) = next-request r
 
 -- ---- every list of deeds
 
-agrees-list : (σ : Settings) (ds : List Deed) (xs : List Told) (t : Table) → Agrees σ xs t → Agrees σ (foldl toldBy xs (history t ds)) (after t ds)
+agrees-list : (o : Opening) (ds : List Deed) (l : Line) (t : Table) → Agrees o l t → Agrees o (foldl toldBy l (history t ds)) (after t ds)
 unfolding history after
-agrees-list σ [] xs t A = A
-agrees-list σ (d ∷ ds) xs t A = agrees-list σ ds _ _ (next-deed σ xs t A d)
+agrees-list o [] l t A = A
+agrees-list o (d ∷ ds) l t A = agrees-list o ds _ _ (next-deed o l t A d)
 
 -- on the table that an accepted opening made
 pub agrees : (o : Opening) (t : Table) → openStep o ≡ outcome (Accepted Zeros) t → (ds : List Deed)
-    → Agrees (settingsOf o) (told (history t ds)) (after t ds)
+    → Agrees o (told o (history t ds)) (after t ds)
 unfolding told
-agrees o t opened ds =
+agrees o t opens ds =
     let σ = settingsOf o in
-    rw (open-made o t opened .1)
-    (agrees-list σ ds [] (emptyTable σ) (record { settings = refl; sized = sized-empty σ; trains = refl; lined = tt }))
+    rw (open-made o t opens .1)
+    (agrees-list o ds (opened o) (emptyTable σ) (record { opening = refl; settings = refl; sized = sized-empty σ; trains = refl; lined = tt }))

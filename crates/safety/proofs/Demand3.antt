@@ -25,7 +25,7 @@ use Rattle.safety.proofs.Tables.{agrees-count}
 use Rattle.safety.proofs.Calls.{agrees}
 
 module _ (o : Opening) (limit : Limit) (x : Told) (t : Steady (settingsOf o) limit x) where
-  head-end : x .now .head ≤ x .now .authority .end
+  head-end : x .now .last .head ≤ x .now .authority .end
   unfolding recordOf
   head-end = guarded-head (settingsOf o) limit (recordOf x) (t .guarded)
 
@@ -60,7 +60,7 @@ module _ (o : Opening) (limit : Limit) (x : Told) (t : Steady (settingsOf o) lim
       let sum = in-behind (settingsOf o) (recordOf a) (x .now .authority .end) limited in
       omega arith
 
-rear-head : (x : Told) → rearOf x ≤ x .now .head
+rear-head : (x : Told) → rearOf x ≤ x .now .last .head
 unfolding rearOf
 rear-head x = omega arith
 
@@ -90,10 +90,11 @@ unfolding Claim
 demand-3 o t opened ds =
     let σ = settingsOf o in
     let A = agrees o t opened ds in
-    let xs = told (history t ds) in
+    let l = told o (history t ds) in
     record {
-      claim = safe o none (firstLimit σ) xs refl (subst (λ (ρ : Settings). Lined ρ (firstLimit ρ) xs) (A .settings) (A .lined));
+      claim = safe o none (firstLimit σ) (l .trains) refl (subst (λ (ρ : Settings). Lined ρ (firstLimit ρ) (l .trains)) (A .settings) (A .lined));
+      line = A .opening;
       settings = A .settings;
-      count = agrees-count σ xs _ A;
+      count = agrees-count o l _ A;
       trains = A .trains;
     }

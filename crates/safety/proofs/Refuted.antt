@@ -16,7 +16,7 @@ use Rattle.safety.specs.History.{isAccepted, toldAct, toldCall, toldBy, 
 use Rattle.safety.specs.Claim.{Claim}
 use Rattle.safety.specs.Worked.{sessionLine, loadedEnters, heldCount, headPastEnd, endTooNear, endOffTheLine, overlapOfTwo, heldAndMoving, brakedAndMoving, figuresMadeUp}
 
-pub counted : heldCount (told (loadedEnters ∷ [])) ≡ 710
+pub counted : heldCount (told sessionLine (loadedEnters ∷ []) .trains) ≡ 710
 unfolding ceilDiv cyclesToStand isAccepted toldCall toldBy told
 counted = refl
 

@@ -6,24 +6,27 @@ use mathlib.Core.List.{List, [], _∷_, map}
 use mathlib.Core.Path.{_≡_, refl, sym, _∙_, ap, subst}
 use native.Mathlib.Omega.{arith}
 use lib.ListN.{length, getD, length-map}
+use Rattle.calls.specs.declared.Opening.{Opening}
 use Rattle.train.specs.declared.Settings.{Settings}
 use Rattle.train.specs.declared.Train.{Train}
 use Rattle.train.specs.declared.Limit.{Limit}
+use Rattle.train.specs.Ranges.{settingsOf}
 use Rattle.train.specs.Track.{limitBehind}
 use Rattle.table.specs.declared.Table.{Table}
 use Rattle.table.specs.Table.{blankTrain, onLine, placeOf, trainAt, aheadOf, limitAt}
 use Rattle.table.proofs.Trains.{Sized, line-length, train-on-line}
-use Rattle.safety.specs.History.{Told}
+use Rattle.safety.specs.History.{Told, Line}
 use Rattle.safety.specs.Claim.{recordOf}
 use Rattle.safety.proofs.Finding.{Absent, IsAt, missing, found}
 use Rattle.safety.proofs.Line.{Lined, firstLimit, limitIn}
 
--- on a line with settings σ the history tells of the trains xs, and the table is t
-pub record Agrees (σ : Settings) (xs : List Told) (t : Table) : Type 0 where
-  pub settings : t .settings ≡ σ
+-- of the line that o opened the history tells l, and the table is t
+pub record Agrees (o : Opening) (l : Line) (t : Table) : Type 0 where
+  pub opening : l .opening ≡ o
+  pub settings : t .settings ≡ settingsOf o
   pub sized : Sized t
-  pub trains : onLine t ≡ map recordOf xs
-  pub lined : Lined (t .settings) (firstLimit (t .settings)) xs
+  pub trains : onLine t ≡ map recordOf (l .trains)
+  pub lined : Lined (t .settings) (firstLimit (t .settings)) (l .trains)
 
 limit-next : (σ : Settings) (limit : Limit) (xs : List Told) (i : ℕ) → i < length xs
     → limitBehind σ (some (getD (map recordOf xs) i blankTrain)) ≡ limitIn σ limit xs (suc i)
@@ -31,7 +34,10 @@ limit-next σ limit [] i h = absurd (omega arith)
 limit-next σ limit (x ∷ xs) zero h = refl
 limit-next σ limit (x ∷ xs) (suc i) h = limit-next σ _ xs i (omega arith)
 
-module _ (σ : Settings) (xs : List Told) (t : Table) (A : Agrees σ xs t) where
+module _ (o : Opening) (l : Line) (t : Table) (A : Agrees o l t) where
+  abbrev xs : List Told
+  xs = l .trains
+
   pub agrees-count : t .count ≡ length xs
   agrees-count = sym (line-length t (A .sized)) ∙ ap length (A .trains) ∙ length-map xs recordOf
 

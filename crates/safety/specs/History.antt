@@ -1,4 +1,4 @@
--- Document 01, "Authorities", and document 02, (ii): the words of demand 3. They come from the calls and their answers alone.
+-- Document 01, "Authorities", and document 02, (ii): the words of demand 3. They come from the opening, the calls and their answers alone.
 use Prim.Native.Nat.{ℕ, suc, _+_, _-_}
 use mathlib.Core.Bool.{Bool, true, false, cond}
 use mathlib.Core.Option.{Option, none, some, Option·map, Option·getD}
@@ -8,7 +8,9 @@ use Rattle.brake.specs.declared.Figures.{Figures}
 use Rattle.motion.specs.declared.Order.{Order}
 use Rattle.motion.specs.declared.Order.the-variants.{Drive, Brake}
 use Rattle.motion.specs.Motion.{nextLevel, releasedLevel, stands}
+use Rattle.calls.specs.declared.Opening.{Opening}
 use Rattle.calls.specs.declared.Entry.{Entry}
+use Rattle.calls.specs.declared.Reading.{Reading}
 use Rattle.calls.specs.declared.Asked.{Asked}
 use Rattle.calls.specs.declared.Act.{Act}
 use Rattle.calls.specs.declared.Act.the-variants.{Report, Extend, CallBack, Hold, Lift}
@@ -68,9 +70,8 @@ freshCounts = record { held = none; braked = none }
 
 -- what its entering and its accepted acts since tell of it by now
 pub record State : Type 0 where
-  -- head and speed of its last report
-  pub head : ℕ
-  pub speed : ℕ
+  -- its last report in this stay or, before the first one, the entering head and 0
+  pub last : Reading
   -- the level that a brake in the coming cycle has
   pub level : ℕ
   pub order : Order
@@ -83,8 +84,8 @@ pub record Told : Type 0 where
   pub figures : Figures
   pub now : State
 
-abbrev pub stateOf : ℕ → ℕ → ℕ → Order → Authority → Counts → State
-stateOf h v l o a n = record { head = h; speed = v; level = l; order = o; authority = a; counts = n }
+abbrev pub stateOf : Reading → ℕ → Order → Authority → Counts → State
+stateOf r l o a n = record { last = r; level = l; order = o; authority = a; counts = n }
 
 -- the track that a train is lent, up to the end e: s is the starting number of its stay, n the last accepted one, and l its length
 abbrev pub lent : ℕ → ℕ → ℕ → ℕ → Authority
@@ -96,7 +97,7 @@ toldEntering e r =
     record {
       entry = e;
       figures = record { full = r .first; growth = r .second };
-      now = stateOf (e .head) 0 (r .first) Brake (lent (e .head) (e .start) (e .start) 0) freshCounts;
+      now = stateOf (record { head = e .head; speed = 0 }) (r .first) Brake (lent (e .head) (e .start) (e .start) 0) freshCounts;
     }
 
 -- 0 after a driven cycle, the next level after a braked one
@@ -126,13 +127,13 @@ upTo a p = lent p (a .start) (a .number) (a .asked)
 
 -- another authority, or other counts
 abbrev pub still : State → Authority → Counts → State
-still s a n = stateOf (s .head) (s .speed) (s .level) (s .order) a n
+still s a n = stateOf (s .last) (s .level) (s .order) a n
 
 -- the state s of a train with figures k, after an accepted act with its answer
 unfoldable pub toldAct : Figures → State → Numbers → Act → State
 toldAct k s n (Report r) =
     let level = levelAfter k (s .order) (s .level) in
-    stateOf (r .head) (r .speed) level (orderIn n) (s .authority)
+    stateOf r level (orderIn n) (s .authority)
     (record { held = Option·map suc (s .counts .held); braked = brakedAfter (stands k (r .speed) level) (orderIn n) (s .counts .braked) })
 toldAct k s n (Extend q) = still s (longer (s .authority) q) (s .counts)
 toldAct k s n (CallBack p) = still s (upTo (s .authority) p) (s .counts)
@@ -140,7 +141,20 @@ toldAct k s n (CallBack p) = still s (upTo (s .authority) p) (s .counts)
 toldAct k s n Hold = still s (s .authority) (record { held = some (Option·getD (s .counts .held) 0); braked = s .counts .braked })
 toldAct k s n Lift = still s (s .authority) (record { held = none; braked = s .counts .braked })
 
--- ---- the trains on the line, in the order of entering
+-- ---- the line, and the trains on it
+
+-- the opening that began it, and its trains in the order of entering: the train ahead is the one before in the list
+pub record Line : Type 0 where
+  pub opening : Opening
+  pub trains : List Told
+
+-- a new table has no train
+abbrev pub opened : Opening → Line
+opened o = record { opening = o; trains = [] }
+
+-- other trains on the same line
+abbrev pub withTrains : Line → List Told → Line
+withTrains l xs = record { opening = l .opening; trains = xs }
 
 -- each train, after an accepted act of the one with this id
 abbrev pub toldOwn : ℕ → Numbers → Act → Told → Told
@@ -153,27 +167,27 @@ without id [] = []
 without id (x ∷ xs) = cond (eqb (x .entry .id) id) (without id xs) (x ∷ without id xs)
 
 -- after an accepted call with its answer
-unfoldable pub toldCall : List Told → Numbers → Ask → List Told
--- a new table has no train; on an open line no opening is accepted
-toldCall xs n (Open o) = []
-toldCall xs n (OnTable (Enter e)) = xs ++ (toldEntering e n ∷ [])
-toldCall xs n (OnTable (Own id a)) = map (toldOwn id n a) xs
-toldCall xs n (OnTable (TakeOff id)) = without id xs
+unfoldable pub toldCall : Line → Numbers → Ask → Line
+-- on an open line no opening is accepted
+toldCall l n (Open o) = opened o
+toldCall l n (OnTable (Enter e)) = withTrains l (l .trains ++ (toldEntering e n ∷ []))
+toldCall l n (OnTable (Own id a)) = withTrains l (map (toldOwn id n a) (l .trains))
+toldCall l n (OnTable (TakeOff id)) = withTrains l (without id (l .trains))
 
 -- after an accepted deed with its answer
-abbrev pub toldDeed : List Told → Numbers → Deed → List Told
-toldDeed xs n (made r) = toldCall xs n (r .asks)
+abbrev pub toldDeed : Line → Numbers → Deed → Line
+toldDeed l n (made r) = toldCall l n (r .asks)
 
 -- after an event; a refused deed tells nothing
-unfoldable pub toldBy : List Told → Event → List Told
-toldBy xs e = cond (isAccepted e) (toldDeed xs (e .answer) (e .deed)) xs
+unfoldable pub toldBy : Line → Event → Line
+toldBy l e = cond (isAccepted e) (toldDeed l (e .answer) (e .deed)) l
 
--- what a history tells; the train ahead is the one before in this list
-unfoldable pub told : List Event → List Told
-told es = foldl toldBy [] es
+-- what a history tells of the line that o opened
+unfoldable pub told : Opening → List Event → Line
+told o es = foldl toldBy (opened o) es
 
 -- ---- words of the claim
 
 -- the length is the entered one
 unfoldable pub rearOf : Told → ℕ
-rearOf x = x .now .head - stepsOf (x .entry .length)
+rearOf x = x .now .last .head - stepsOf (x .entry .length)

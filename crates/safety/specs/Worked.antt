@@ -92,8 +92,8 @@ wordsOf x =
     record {
       id = x .entry .id;
       start = x .now .authority .start;
-      head = x .now .head;
-      speed = x .now .speed;
+      head = x .now .last .head;
+      speed = x .now .last .speed;
       rear = rearOf x;
       end = x .now .authority .end;
       held = x .now .counts .held;
@@ -101,7 +101,7 @@ wordsOf x =
     }
 
 abbrev pub wordsAfter : Opening → List Deed → List Words
-wordsAfter o ds = map wordsOf (told (history (openStep o .table) ds))
+wordsAfter o ds = map wordsOf (told o (history (openStep o .table) ds) .trains)
 
 abbrev pub workedWords : List Words
 workedWords =
