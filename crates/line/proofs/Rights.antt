@@ -102,7 +102,7 @@ asked-16 t (OnTable (Enter e)) = go (figuresFor (t .settings) e)
   where
     go : (f : FiguresFound) → numbersOf (enterDecision t e f .answer) .number ≡ 16 → ⊥
     go NoFigures = λ is. omega arith
-    go (Given k) = judged-16 (enterChecks t e) _ _ refl
+    go (Given k) = judged-16 (enterChecks t e k) _ _ refl
 asked-16 t (OnTable (Own id a)) = go (placeOf t id)
   where
     go : (f : Option ℕ) → numbersOf (named f (actDecision t a) .answer) .number ≡ 16 → ⊥

@@ -63,7 +63,7 @@ refusal-keeps t r refuses = go (decided true t r) (any-request t (λ r d. Kept d
         any-call t (λ c d. Kept d)
         (record {
           refuses = λ c r. inr (refl, refl);
-          enters = λ e k q passes. inl refl;
+          enters = λ e k a. inl refl;
           acts = λ id i a q passes. inl (accepted-0 (rulingAt t a i .gives));
           leaves = λ id i q may. inl refl;
         })

@@ -28,14 +28,14 @@ use Rattle.acts.specs.Decide.{decide}
 use Rattle.acts.proofs.Sentences.{leaves-exactly, act-leaves}
 use Rattle.table.specs.declared.Table.{Table}
 use Rattle.table.specs.declared.Change.the-variants.{Put, Add, DropFirst}
-use Rattle.table.specs.Table.{placeOf, trainAt, changed}
+use Rattle.table.specs.Table.{places, placeOf, trainAt, changed}
 use Rattle.table.proofs.Places.{found-below, still-found, still-there}
 use Rattle.table.proofs.Trains.{Sized, sized-with, sized-last, sized-without-first}
 use Rattle.table.proofs.Sentences.{FirstWith, found-exactly, put-leaves, add-leaves, drop-leaves}
 use Rattle.line.specs.declared.Decision.{Decision}
-use Rattle.line.specs.Decide.{refused, enterChecks, rulingAt}
+use Rattle.line.specs.Decide.{refused, rulingAt}
 use Rattle.line.specs.Step.{requested, step}
-use Rattle.line.proofs.Steps.{any-call, any-request, enter-room}
+use Rattle.line.proofs.Steps.{any-call, any-request}
 
 -- ---- the table has its 32 places, and no more are in use
 
@@ -45,7 +45,7 @@ sized-step t sized =
     any-call t (λ c d. Sized (changed t (d .change)))
     (record {
       refuses = λ c r. sized;
-      enters = λ e k f q. sized-last t (entering e k) sized (enter-room t e q);
+      enters = λ e k a. sized-last t (entering e k) sized (a .room);
       acts = λ j p a f q. sized-with t p _ sized;
       leaves = λ j p f may. let below = found-below t j p f in sized-without-first t sized (omega arith);
     })
@@ -60,7 +60,7 @@ pub settings-step : (t : Table) (c : Call) → step t c .table .settings ≡ t .
 unfolding step
 settings-step t =
     any-call t (λ c d. changed t (d .change) .settings ≡ t .settings)
-    (record { refuses = λ c r. refl; enters = λ e k f q. refl; acts = λ j p a f q. refl; leaves = λ j p f may. refl })
+    (record { refuses = λ c r. refl; enters = λ e k a. refl; acts = λ j p a f q. refl; leaves = λ j p f may. refl })
 
 pub settings-request : (t : Table) (r : Request) → requested true t r .table .settings ≡ t .settings
 unfolding step
@@ -81,7 +81,7 @@ own-accepted t id a =
     any-call t Shows
     (record {
       refuses = refuses;
-      enters = λ e k f q. tt;
+      enters = λ e k a. tt;
       acts = λ j p a f q zero. record { place = p; found = f; passes = q; table = refl };
       leaves = λ j p f may. tt;
     }) (Own id a)
@@ -119,10 +119,9 @@ module _ (Q : Train → Type 0) (id : ℕ) (t : Table) (sized : Sized t) (h : Ho
   first : FirstWith t sized id i
   first = found-exactly t sized id i .0 (h .found)
 
-  after-enter : (e : Entry) (k : Figures) → firstOf (enterChecks t e) ≡ none → Holds Q id (changed t (Add (entering e k)))
-  after-enter e k q =
+  after-enter : (e : Entry) (k : Figures) → t .count < places → Holds Q id (changed t (Add (entering e k)))
+  after-enter e k free =
       let x = entering e k in
-      let free = enter-room t e q in
       let below = first .below in
       let there = add-leaves t x in
       record {
@@ -182,7 +181,7 @@ module _ (Q : Train → Type 0) (id : ℕ) (t : Table) (sized : Sized t) (h : Ho
       any-call t (λ c d. Keeps Q id (numbersOf (d .answer) .number) (OnTable c) → Holds Q id (changed t (d .change)))
       (record {
         refuses = λ c r keeps. h;
-        enters = λ e k f q keeps. after-enter e k q;
+        enters = λ e k a keeps. after-enter e k (a .room);
         acts = λ j p a f q keeps.
             after-act j p a f q (subst (λ (n : ℕ). Keeps Q id n (OnTable (Own j a))) (accepted-0 (rulingAt t a p .gives)) keeps);
         leaves = λ j p f may off. after-off j p f may (λ mine. off mine refl);

@@ -8,8 +8,9 @@ use mathlib.Core.List.{[], _∷_}
 use mathlib.Core.Path.{_≡_, refl, sym, ap, _∙_}
 use native.Mathlib.Omega.{arith}
 use lib.ListN.{length, length-take}
-use borrow.Author.Tests.{le-leb, lt-leb, leb-false, not-false}
-use Rattle.logic.proofs.Tests.{by-test}
+use lib.Dec.{leb}
+use borrow.Author.Tests.{le-leb, lt-leb, leb-true, leb-false, not-false}
+use Rattle.logic.proofs.Tests.{by-test, both}
 use Rattle.ranges.specs.Ranges.{idInRange, startInRange}
 use Rattle.brake.specs.declared.Figures.{Figures}
 use Rattle.brake.specs.declared.FiguresFound.{FiguresFound}
@@ -38,13 +39,14 @@ use Rattle.acts.specs.declared.Verdict.the-variants.{TurnedDown, Passed}
 use Rattle.train.specs.Ranges.{settingsInRange, settingsOf}
 use Rattle.train.specs.Record.{figuresFor, entering}
 use Rattle.train.specs.Track.{stepsOf, withinLimit}
+use Rattle.train.proofs.Track.{InLimit, limit-tested}
 use Rattle.acts.specs.Acts.{mayLeave}
 use Rattle.acts.specs.Decide.{Ruling, decide, verdictBy, verdict}
 use Rattle.table.specs.declared.Table.{Table}
 use Rattle.table.specs.declared.Change.{Change}
 use Rattle.table.specs.declared.Change.the-variants.{Put, Add, DropFirst, Anew}
 use Rattle.table.specs.Table.{places, emptyTable, placeOf, trainAt, limitAt, Fits}
-use Rattle.table.proofs.Places.{found-among, found-below, FoundAt}
+use Rattle.table.proofs.Places.{found-among, found-below, not-found, FoundAt}
 use Rattle.line.specs.declared.Decision.{Decision}
 use Rattle.line.specs.declared.Outcome.{Outcome}
 use Rattle.line.specs.Decide.{refused, accepted, judged, openDecision, enterChecks, enterDecision, rulingAt, actDecision, takeOffDecision, named, decideOn, outOfTurn, decided}
@@ -62,11 +64,32 @@ named-any : (f : Option ℕ) (d : ℕ → Decision) (P : Decision → Type 0) �
 named-any none d P refuses accepts = refuses NoTrain
 named-any (some i) d P refuses accepts = accepts i refl
 
+-- a train that may enter, with figures k: its id is not on the line, there is a free place, its rear is on the line and its head within the limit
+pub record Admitted (t : Table) (e : Entry) (k : Figures) : Type 0 where
+  pub figures : figuresFor (t .settings) e ≡ Given k
+  pub absent : placeOf t (e .id) ≡ none
+  pub room : t .count < places
+  pub long : stepsOf (e .length) ≤ e .head
+  pub near : InLimit (limitAt t (t .count)) (e .head)
+
+-- an accepted entering has passed its checks
+admitted : (t : Table) (e : Entry) (k : Figures) → figuresFor (t .settings) e ≡ Given k → firstOf (enterChecks t e k) ≡ none → Admitted t e k
+admitted t e k given passes =
+    let known = passed _ _ _ (passed _ _ _ passes .1) in
+    let full = passed _ _ _ (known .1) in
+    let head = both (leb (stepsOf (e .length)) (e .head)) _ (not-false _ (passed _ _ _ (full .1) .0)) in
+    record {
+      figures = given;
+      absent = not-found (placeOf t (e .id)) (known .0);
+      room = leb-false places (t .count) (full .0);
+      long = leb-true _ _ (head .0);
+      near = limit-tested (limitAt t (t .count)) (e .head) (head .1);
+    }
+
 -- what has to be shown of each call and its decision, so that it holds of every one
 pub record Any (t : Table) (P : Call → Decision → Type 0) : Type 0 where
   pub refuses : (c : Call) (r : Refusal) → P c (refused r)
-  pub enters : (e : Entry) (k : Figures) → figuresFor (t .settings) e ≡ Given k → firstOf (enterChecks t e) ≡ none
-      → P (Enter e) (accepted (Entered (k .full) (k .growth) (e .head)) (Add (entering e k)))
+  pub enters : (e : Entry) (k : Figures) → Admitted t e k → P (Enter e) (accepted (Entered (k .full) (k .growth) (e .head)) (Add (entering e k)))
   pub acts : (id i : ℕ) (a : Act) → placeOf t id ≡ some i → firstOf (rulingAt t a i .checks) ≡ none
       → P (Own id a) (accepted (rulingAt t a i .gives) (Put i (rulingAt t a i .after)))
   pub leaves : (id i : ℕ) → placeOf t id ≡ some i → mayLeave i (trainAt t i) ≡ true → P (TakeOff id) (accepted Zeros DropFirst)
@@ -77,7 +100,7 @@ any-call t P any (Enter e) = go (figuresFor (t .settings) e) refl
   where
     go : (f : FiguresFound) → figuresFor (t .settings) e ≡ f → P (Enter e) (enterDecision t e f)
     go NoFigures q = any .refuses _ BadEntry
-    go (Given k) q = judged-any (firstOf (enterChecks t e)) _ _ (P (Enter e)) (any .refuses _) (any .enters e k q)
+    go (Given k) q = judged-any (firstOf (enterChecks t e k)) _ _ (P (Enter e)) (any .refuses _) (λ passes. any .enters e k (admitted t e k q passes))
 any-call t P any (Own id a) =
     named-any (placeOf t id) _ (P (Own id a)) (any .refuses _)
     (λ i q. judged-any (firstOf (rulingAt t a i .checks)) _ _ (P (Own id a)) (any .refuses _) (any .acts id i a q))
@@ -87,17 +110,13 @@ any-call t P any (TakeOff id) =
     judged-any (firstOf (check (not (mayLeave i (trainAt t i))) NotLeaving ∷ [])) _ _ (P (TakeOff id)) (any .refuses _)
     (λ e. any .leaves id i q (not-false _ (passed _ NotLeaving [] e .0))))
 
--- an accepted entering found a free place
-pub enter-room : (t : Table) (e : Entry) → firstOf (enterChecks t e) ≡ none → t .count < places
-enter-room t e passes = leb-false places (t .count) (passed _ _ _ (passed _ _ _ (passed _ _ _ passes .1) .1) .0)
-
 -- the table has the place that the change needs
 call-fits : (t : Table) → length (t .trains) ≡ places → (c : Call) → Fits t (decideOn t (OnTable c) .change)
 call-fits t size =
     any-call t (λ c d. Fits t (d .change))
     (record {
       refuses = λ c r. tt;
-      enters = λ e k q passes. enter-room t e passes;
+      enters = λ e k a. a .room;
       acts = λ id i a q passes. let among = found-among t id i q in let all = length-take (t .count) (t .trains) in omega arith;
       leaves = λ id i q may. let below = found-below t id i q in omega arith;
     })

@@ -7,6 +7,7 @@ use mathlib.Core.List.{List, [], _∷_}
 use lib.Dec.{leb}
 use Rattle.logic.specs.Options.{isSome}
 use Rattle.ranges.specs.Ranges.{idInRange, startInRange}
+use Rattle.brake.specs.declared.Figures.{Figures}
 use Rattle.brake.specs.declared.FiguresFound.{FiguresFound}
 use Rattle.brake.specs.declared.FiguresFound.the-variants.{Given, NoFigures}
 use Rattle.calls.specs.declared.Opening.{Opening}
@@ -50,9 +51,9 @@ judged (some r) v c = refused r
 unfoldable pub openDecision : Opening → Decision
 openDecision o = judged (firstOf (check (not (settingsInRange o)) BadSetting ∷ [])) Zeros (Anew o)
 
--- Enter: 4, 5, 6, 7. Length and load class out of range are 4 too: they have no figures.
-abbrev pub enterChecks : Table → Entry → List Check
-enterChecks t e =
+-- Enter, with figures k: 4, 5, 6, 7. Length and load class out of range are 4 too: they have no figures.
+abbrev pub enterChecks : Table → Entry → Figures → List Check
+enterChecks t e k =
     check (not (idInRange (e .id) && startInRange (e .start))) BadEntry
     ∷ check (isSome (placeOf t (e .id))) OnLine
     ∷ check (leb places (t .count)) LineFull
@@ -61,7 +62,7 @@ enterChecks t e =
 
 unfoldable pub enterDecision : Table → Entry → FiguresFound → Decision
 enterDecision t e NoFigures = refused BadEntry
-enterDecision t e (Given k) = judged (firstOf (enterChecks t e)) (Entered (k .full) (k .growth) (e .head)) (Add (entering e k))
+enterDecision t e (Given k) = judged (firstOf (enterChecks t e k)) (Entered (k .full) (k .growth) (e .head)) (Add (entering e k))
 
 -- what an act of the train at place i comes to
 abbrev pub rulingAt : Table → Act → ℕ → Ruling

@@ -7,12 +7,9 @@ use mathlib.Core.List.{List, [], _∷_, map, foldl, map-append}
 use mathlib.Core.Path.{_≡_, refl, sym, _∙_, subst}
 use native.Mathlib.Nat.{le-refl}
 use native.Mathlib.Omega.{arith}
-use lib.Dec.{leb}
 use lib.ListN.{length}
-use borrow.Author.Tests.{eq-eqb, leb-true, not-false}
-use Rattle.logic.proofs.Tests.{both}
+use borrow.Author.Tests.{eq-eqb}
 use Rattle.brake.specs.declared.Figures.{Figures}
-use Rattle.brake.specs.declared.FiguresFound.the-variants.{Given}
 use Rattle.brake.proofs.Consist.{given-sound}
 use Rattle.calls.specs.declared.Opening.{Opening}
 use Rattle.calls.specs.declared.Entry.{Entry}
@@ -29,23 +26,20 @@ use Rattle.calls.specs.declared.Values.the-variants.{Entered, Zeros}
 use Rattle.calls.specs.Answers.{numbersOf}
 use Rattle.calls.specs.Checks.{firstOf}
 use Rattle.calls.proofs.Answers.{accepted-0, refusal-not-0}
-use Rattle.calls.proofs.Checks.{passed}
 use Rattle.train.specs.Ranges.{settingsOf}
-use Rattle.train.specs.Record.{figuresFor, entering}
-use Rattle.train.specs.Track.{stepsOf}
+use Rattle.train.specs.Record.{entering}
 use Rattle.acts.specs.Acts.{mayLeave}
 use Rattle.train.proofs.Records.{figures-entered}
-use Rattle.train.proofs.Track.{limit-tested}
 use Rattle.acts.proofs.Checks.{first-leaves}
 use Rattle.table.specs.declared.Table.{Table}
 use Rattle.table.specs.declared.Change.the-variants.{Put, Add, DropFirst}
-use Rattle.table.specs.Table.{emptyTable, onLine, placeOf, trainAt, limitAt}
-use Rattle.table.proofs.Places.{found-below, not-found}
+use Rattle.table.specs.Table.{emptyTable, onLine, placeOf, trainAt}
+use Rattle.table.proofs.Places.{found-below}
 use Rattle.table.proofs.Trains.{Sized, sized-empty, line-with, sized-with, line-last, sized-last, line-without-first, sized-without-first}
 use Rattle.line.specs.declared.Decision.{Decision}
-use Rattle.line.specs.Decide.{refused, accepted, enterChecks, rulingAt, decided}
+use Rattle.line.specs.Decide.{refused, accepted, rulingAt, decided}
 use Rattle.line.specs.Step.{outcome, carriedOut, openStep}
-use Rattle.line.proofs.Steps.{any-call, any-request, enter-room, open-made}
+use Rattle.line.proofs.Steps.{Admitted, any-call, any-request, open-made}
 use Rattle.safety.specs.History.{Deed, made, answerTo, leftBy, Event, history, after, isAccepted, Told, toldEntering, Line, opened, withTrains, toldCall, toldBy, told}
 use Rattle.safety.specs.Claim.{recordOf}
 use Rattle.safety.proofs.Train.{guarded-entering}
@@ -105,24 +99,19 @@ module _ (o : Opening) (l : Line) (t : Table) (A : Agrees o l t) where
 
   -- ---- an entering
 
-  next-enter : (e : Entry) (k : Figures) → figuresFor (t .settings) e ≡ Given k → firstOf (enterChecks t e) ≡ none
-      → Does (Enter e) (accepted (Entered (k .full) (k .growth) (e .head)) (Add (entering e k)))
+  next-enter : (e : Entry) (k : Figures) → Admitted t e k → Does (Enter e) (accepted (Entered (k .full) (k .growth) (e .head)) (Add (entering e k)))
   unfolding toldCall recordOf
-  next-enter e k f q r asks =
-      let fresh = passed _ _ _ (passed _ _ _ q .1) in
-      let room = passed _ _ _ (fresh .1) in
-      let place = both (leb (stepsOf (e .length)) (e .head)) _ (not-false _ (passed _ _ _ (room .1) .0)) in
-      let free = enter-room t e q in
-      let absent = agrees-absent o l t A (e .id) (not-found (placeOf t (e .id)) (fresh .0)) in
-      let limit = rw (agrees-limit o l t A (t .count) (le-refl _), agrees-count o l t A) at (limit-tested (limitAt t (t .count)) (e .head) (place .1)) in
+  next-enter e k a r asks =
+      let absent = agrees-absent o l t A (e .id) (a .absent) in
+      let limit = rw (agrees-limit o l t A (t .count) (le-refl _), agrees-count o l t A) at (a .near) in
       let v = Entered (k .full) (k .growth) (e .head) in
       let now = told-accepted l r (Enter e) v asks in
       let new = toldEntering e (numbersOf (Accepted v)) in
       let steady : Steady (t .settings) (limitIn (t .settings) (firstLimit (t .settings)) xs (length xs)) new =
-      record { consist = sym (figures-entered (t .settings) e) ∙ f; guarded = guarded-entering _ _ e k (given-sound (e .load) (e .length) k f) (leb-true _ _ (place .0)) limit; held-slows = tt; braked-slows = tt } in
+      record { consist = sym (figures-entered (t .settings) e) ∙ a .figures; guarded = guarded-entering _ _ e k (given-sound (e .load) (e .length) k (a .figures)) (a .long) limit; held-slows = tt; braked-slows = tt } in
       rw now
-      (next-trains _ _ refl (sized-last t _ (A .sized) free)
-      (rw (line-last t (entering e k) (A .sized) free, A .trains, map-append)) (lined-enter (t .settings) _ xs new (A .lined) absent steady))
+      (next-trains _ _ refl (sized-last t _ (A .sized) (a .room))
+      (rw (line-last t (entering e k) (A .sized) (a .room), A .trains, map-append)) (lined-enter (t .settings) _ xs new (A .lined) absent steady))
 
   -- ---- a taking off
 

@@ -7,12 +7,10 @@ use mathlib.Core.Option.{none, some}
 use mathlib.Core.List.{List, [], _∷_}
 use native.Mathlib.Nat.{le-refl, le-trans}
 use native.Mathlib.Omega.{arith}
-use lib.Dec.{eqb, leb}
-use borrow.Author.Tests.{not-false}
-use Rattle.logic.proofs.Tests.{by-test, both}
+use lib.Dec.{eqb}
+use Rattle.logic.proofs.Tests.{by-test}
 use Rattle.ranges.specs.Ranges.{greatestLineEnd, greatestTraction}
 use Rattle.brake.specs.declared.Figures.{Figures}
-use Rattle.brake.specs.declared.FiguresFound.the-variants.{Given}
 use Rattle.brake.proofs.Consist.{given-sound}
 use Rattle.motion.specs.declared.Order.{Order}
 use Rattle.motion.specs.declared.Order.the-variants.{Drive, Brake}
@@ -37,17 +35,14 @@ use Rattle.calls.specs.Checks.{firstOf}
 use Rattle.calls.specs.Requests.{request}
 use Rattle.rights.specs.Rights.{dispatcher, mayAsk}
 use Rattle.calls.proofs.Answers.{refusal-range}
-use Rattle.calls.proofs.Checks.{passed}
 use Rattle.train.specs.Ranges.{settingsInRange}
-use Rattle.train.specs.Record.{figuresFor}
-use Rattle.train.specs.Track.{stepsOf}
-use Rattle.train.proofs.Track.{InLimit, limit-tested}
+use Rattle.train.proofs.Track.{InLimit}
 use Rattle.table.specs.declared.Table.{Table}
 use Rattle.table.specs.Table.{placeOf, limitAt}
 use Rattle.table.proofs.Places.{found-below}
-use Rattle.line.specs.Decide.{openDecision, enterChecks, rulingAt, decideOn, decided}
+use Rattle.line.specs.Decide.{openDecision, rulingAt, decideOn, decided}
 use Rattle.line.specs.Step.{outcome, openStep}
-use Rattle.line.proofs.Steps.{any-call, any-request, open-taken, open-refused}
+use Rattle.line.proofs.Steps.{Admitted, any-call, any-request, open-taken, open-refused}
 use Rattle.safety.specs.History as History
 use Rattle.safety.proofs.Acts.{Within, rulingOn, act-kept}
 use Rattle.safety.proofs.Bounds.{limit-on-line, tells, left-ranges}
@@ -93,13 +88,10 @@ module _ (o : Opening) (t : Table) (opened : openStep o ≡ outcome (Accepted Ze
   limit-fits : (i : ℕ) → i ≤ left .count → (place : ℕ) → InLimit (limitAt left i) place → place ≤ greatestLineEnd
   limit-fits i h place limited = le-trans (limit-on-line o t opened ds i h place limited) (left-ranges o t opened ds .end)
 
-  enter-shown : (e : Entry) (k : Figures) → figuresFor (left .settings) e ≡ Given k → firstOf (enterChecks left e) ≡ none
-      → Shown (Accepted (Entered (k .full) (k .growth) (e .head)))
-  enter-shown e k q p =
-      let room = passed _ _ _ (passed _ _ _ (passed _ _ _ p .1) .1) in
-      let place = both (leb (stepsOf (e .length)) (e .head)) _ (not-false _ (passed _ _ _ (room .1) .0)) in
-      let head = limit-fits (left .count) (le-refl _) (e .head) (limit-tested (limitAt left (left .count)) (e .head) (place .1)) in
-      let sound = given-sound (e .load) (e .length) k q in
+  enter-shown : (e : Entry) (k : Figures) → Admitted left e k → Shown (Accepted (Entered (k .full) (k .growth) (e .head)))
+  enter-shown e k a =
+      let head = limit-fits (left .count) (le-refl _) (e .head) (a .near) in
+      let sound = given-sound (e .load) (e .length) k (a .figures) in
       omega arith
 
   -- what an act gives is bounded by the settings and the limit
