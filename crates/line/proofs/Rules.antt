@@ -30,13 +30,13 @@ use Rattle.calls.specs.Answers.{numbers, numbersOf}
 use Rattle.calls.specs.Requests.{request}
 use Rattle.calls.proofs.Answers.{accepted-0}
 use Rattle.acts.specs.declared.Verdict.{Verdict}
-use Rattle.train.specs.Ranges.{settingsInRange}
+use Rattle.train.specs.Ranges.{settingsInRange, WorksWith}
 use Rattle.train.specs.Record.{trainOf, figuresFor}
 use Rattle.train.specs.Track.{stepsOf}
 use Rattle.acts.specs.Acts.{mayLeave}
 use Rattle.acts.specs.Decide.{decide, verdict}
 use Rattle.train.proofs.Track.{InLimit, limit-beyond, limit-within}
-use Rattle.train.proofs.Records.{WorksWith, settings-given}
+use Rattle.train.proofs.Records.{settings-given}
 use Rattle.train.proofs.Sentences.{Offers, settings-exactly}
 use Rattle.acts.proofs.Sentences.{leaves-exactly}
 use Rattle.table.specs.declared.Table.{Table}

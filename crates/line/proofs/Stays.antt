@@ -8,6 +8,7 @@ use mathlib.Core.Path.{_≡_, refl, sym, ap, _∙_, subst}
 use native.Mathlib.Decide.{ℕ-discrete}
 use native.Mathlib.Omega.{arith}
 use Rattle.brake.specs.declared.Figures.{Figures}
+use Rattle.calls.specs.declared.Opening.{Opening}
 use Rattle.calls.specs.declared.Entry.{Entry}
 use Rattle.calls.specs.declared.Act.{Act}
 use Rattle.calls.specs.declared.Call.{Call}
@@ -22,6 +23,7 @@ use Rattle.calls.proofs.Answers.{accepted-0, refusal-range}
 use Rattle.train.specs.declared.Train.{Train}
 use Rattle.train.specs.declared.Settings.{Settings}
 use Rattle.train.specs.declared.Limit.{Limit}
+use Rattle.train.specs.Ranges.{WorksWith}
 use Rattle.train.specs.Record.{entering}
 use Rattle.acts.specs.Acts.{mayLeave}
 use Rattle.acts.specs.Decide.{decide}
@@ -54,17 +56,18 @@ pub sized-request : (t : Table) → Sized t → (r : Request) → Sized (request
 unfolding step
 sized-request t sized = any-request t (λ r d. Sized (changed t (d .change))) (λ r why. sized) (λ r c asks. sized-step t sized c)
 
--- ---- what it works with stays
+-- ---- the numbers that were opened stay
 
-pub settings-step : (t : Table) (c : Call) → step t c .table .settings ≡ t .settings
+pub works-step : (o : Opening) (t : Table) → WorksWith o (t .settings) → (c : Call) → WorksWith o (step t c .table .settings)
 unfolding step
-settings-step t =
-    any-call t (λ c d. changed t (d .change) .settings ≡ t .settings)
-    (record { refuses = λ c r. refl; enters = λ e k a. refl; acts = λ j p a f q. refl; leaves = λ j p f may. refl })
+works-step o t works =
+    any-call t (λ c d. WorksWith o (changed t (d .change) .settings))
+    (record { refuses = λ c r. works; enters = λ e k a. works; acts = λ j p a f q. works; leaves = λ j p f may. works })
 
-pub settings-request : (t : Table) (r : Request) → requested true t r .table .settings ≡ t .settings
+pub works-request : (o : Opening) (t : Table) → WorksWith o (t .settings) → (r : Request) → WorksWith o (requested true t r .table .settings)
 unfolding step
-settings-request t = any-request t (λ r d. changed t (d .change) .settings ≡ t .settings) (λ r why. refl) (λ r c asks. settings-step t c)
+works-request o t works =
+    any-request t (λ r d. WorksWith o (changed t (d .change) .settings)) (λ r why. works) (λ r c asks. works-step o t works c)
 
 -- ---- an accepted act
 

@@ -26,7 +26,7 @@ use Rattle.table.specs.declared.Table.{Table}
 use Rattle.calls.specs.declared.Answer.the-variants.{Accepted}
 use Rattle.calls.specs.declared.Values.the-variants.{Zeros}
 use Rattle.ranges.specs.Ranges.{between}
-use Rattle.train.specs.Ranges.{settingsInRange, settingsOf}
+use Rattle.train.specs.Ranges.{settingsInRange, WorksWith}
 use Rattle.table.specs.Table.{trainAt, limitAt}
 use Rattle.train.specs.Report.{reachOf, allowed, motionAfter, computable, reportAllowed}
 use Rattle.acts.specs.Acts.{callBackAllowed}
@@ -50,8 +50,10 @@ pub record InRange (σ : Settings) : Type 0 where
   pub ceiling : σ .limits .ceiling ≤ greatestCeiling
   pub traction : σ .limits .traction ≤ greatestTraction
 
-ranges : (o : Opening) → settingsInRange o ≡ true → InRange (settingsOf o)
-ranges o e = let f = settings-exactly o .0 e in record { end = f .end .1; ceiling = f .ceiling .1; traction = f .traction .1 }
+ranges : (o : Opening) (σ : Settings) → WorksWith o σ → settingsInRange o ≡ true → InRange σ
+ranges o σ works e =
+    let f = settings-exactly o .0 e in
+    record { end = rw (works .end) (f .end .1); ceiling = rw (works .ceiling) (f .ceiling .1); traction = rw (works .traction) (f .traction .1) }
 
 -- a train on the line with this limit, whose end is on it too
 pub record OnTrack (σ : Settings) (limit : Limit) (x : Train) : Type 0 where
@@ -138,7 +140,7 @@ module _ (o : Opening) (t : Table) (opened : openStep o ≡ outcome (Accepted Ze
       record { guarded = g; end = limit-on-line i (omega arith) _ (g .end-in-limit) }
 
   pub left-ranges : InRange (left .settings)
-  left-ranges = rw (agrees o t opened ds .settings) (ranges o (open-made o t opened .0))
+  left-ranges = ranges o (left .settings) (agrees o t opened ds .settings) (open-made o t opened .0)
 
   pub always-computable : (i : ℕ) → i < left .count → computable (trainAt left i) ≡ true
   always-computable i h = track-computable (left .settings) left-ranges _ (trainAt left i) (track i h)

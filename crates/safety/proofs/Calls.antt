@@ -26,10 +26,10 @@ use Rattle.calls.specs.declared.Values.the-variants.{Entered, Zeros}
 use Rattle.calls.specs.Answers.{numbersOf}
 use Rattle.calls.specs.Checks.{firstOf}
 use Rattle.calls.proofs.Answers.{accepted-0, refusal-not-0}
-use Rattle.train.specs.Ranges.{settingsOf}
+use Rattle.train.specs.Ranges.{settingsOf, WorksWith}
 use Rattle.train.specs.Record.{entering}
 use Rattle.acts.specs.Acts.{mayLeave}
-use Rattle.train.proofs.Records.{figures-entered}
+use Rattle.train.proofs.Records.{settings-given, figures-entered}
 use Rattle.acts.proofs.Checks.{first-leaves}
 use Rattle.table.specs.declared.Table.{Table}
 use Rattle.table.specs.declared.Change.the-variants.{Put, Add, DropFirst}
@@ -75,7 +75,7 @@ module _ (o : Opening) (l : Line) (t : Table) (A : Agrees o l t) where
   next-trains : (u : Table) (ys : List Told) → u .settings ≡ t .settings → Sized u → onLine u ≡ map recordOf ys
       → Lined (u .settings) (firstLimit (u .settings)) ys → Agrees o (withTrains l ys) u
   next-trains u ys same sized trains lined =
-      record { opening = A .opening; settings = same ∙ A .settings; sized = sized; trains = trains; lined = lined }
+      record { opening = A .opening; settings = subst (WorksWith o) (sym same) (A .settings); sized = sized; trains = trains; lined = lined }
 
   -- after one that asks for the call c
   abbrev Does : Call → Decision → Type 0
@@ -153,4 +153,4 @@ unfolding told
 agrees o t opens ds =
     let σ = settingsOf o in
     rw (open-made o t opens .1)
-    (agrees-list o ds (opened o) (emptyTable σ) (record { opening = refl; settings = refl; sized = sized-empty σ; trains = refl; lined = tt }))
+    (agrees-list o ds (opened o) (emptyTable σ) (record { opening = refl; settings = settings-given o; sized = sized-empty σ; trains = refl; lined = tt }))

@@ -33,7 +33,8 @@ use Rattle.train.specs.declared.Train.{Train}
 use Rattle.train.specs.Record.{same}
 use Rattle.train.specs.Report.{worstOf, reachOf, orderAfter, isPenalty}
 use Rattle.train.proofs.Track.{InLimit}
-use Rattle.train.proofs.Records.{WorksWith, settings-given, free-order}
+use Rattle.train.specs.Ranges.{WorksWith}
+use Rattle.train.proofs.Records.{free-order}
 use Rattle.train.proofs.Sentences.{report-exactly, penalty-order, held-order, as-usual, free-drives, free-brakes, mark-exactly}
 use Rattle.acts.proofs.Sentences.{report-9, report-answered, Asks, extension-10, extension-11, extension-12, extension-repeated, extension-13, extension-taken, call-back-moves, call-back-14, hold-marks, lift-unmarks}
 use Rattle.table.specs.declared.Table.{Table}
@@ -54,7 +55,7 @@ module _ (o : Opening) (t : Table) (opened : openStep o ≡ outcome (Accepted Ze
 
   -- the table works with the numbers that were opened
   pub works-with : WorksWith o (now .settings)
-  works-with = rw (agrees o t opened ds .settings) (settings-given o)
+  works-with = agrees o t opened ds .settings
 
   -- "at most 32 trains"
   pub at-most-32 : now .count ≤ 32
@@ -234,7 +235,7 @@ module _ (o : Opening) (t : Table) (opened : openStep o ≡ outcome (Accepted Ze
 
   -- the line end as opened, or the safety distance as opened behind the rear of the train ahead
   pub track-first : (place : ℕ) → InLimit (limitAt now 0) place ↔ (place ≤ o .end)
-  track-first place = rw (← (ap (λ s. s .end) (agrees o t opened ds .settings))) (limit-in-front now place)
+  track-first place = rw (← (works-with .end)) (limit-in-front now place)
 
   pub track-behind : (j place : ℕ) → InLimit (limitAt now (suc j)) place ↔ (place + o .safety + 6096000 * trainAt now j .length ≤ trainAt now j .motion .head)
-  track-behind j place = rw (← (ap (λ s. s .safety) (agrees o t opened ds .settings))) (limit-further-back now j place)
+  track-behind j place = rw (← (works-with .safety)) (limit-further-back now j place)

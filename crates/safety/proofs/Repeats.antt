@@ -23,7 +23,7 @@ use Rattle.calls.specs.declared.Values.the-variants.{Extended, Zeros}
 use Rattle.calls.specs.Answers.{numbersOf}
 use Rattle.calls.specs.Requests.{request}
 use Rattle.train.specs.declared.Train.{Train}
-use Rattle.train.specs.declared.Settings.{Settings}
+use Rattle.train.specs.Ranges.{WorksWith}
 use Rattle.acts.specs.declared.Verdict.the-variants.{TurnedDown, Passed}
 use Rattle.acts.specs.Acts.{isRepeat, extended}
 use Rattle.acts.specs.Decide.{decide, verdict}
@@ -35,7 +35,7 @@ use Rattle.table.proofs.Trains.{Sized}
 use Rattle.line.specs.Decide.{rulingAt}
 use Rattle.line.specs.Step.{outcome, requested, openStep, step}
 use Rattle.line.proofs.Rules.{own-step}
-use Rattle.line.proofs.Stays.{Holds, Keeps, still-holds, sized-step, sized-request, settings-step, settings-request, own-accepted}
+use Rattle.line.proofs.Stays.{Holds, Keeps, still-holds, sized-step, sized-request, works-step, works-request, own-accepted}
 use Rattle.safety.specs.History.{Deed, made, Event, history, after, isAccepted}
 use Rattle.safety.proofs.Calls.{agrees}
 
@@ -148,10 +148,10 @@ module _ (id : ℕ) (q : Asked) where
       go (made r) is =
           last-kept (r .asks) (e .answer .number) (λ asks zero. stays .0 (takes e r _ is asks zero)) (λ p asks zero. other .0 p (takes e r _ is asks zero))
 
-settings-after : (ds : List Deed) (t : Table) → after t ds .settings ≡ t .settings
+works-after : (o : Opening) (ds : List Deed) (t : Table) → WorksWith o (t .settings) → WorksWith o (after t ds .settings)
 unfolding after
-settings-after [] t = refl
-settings-after (made r ∷ ds) t = settings-after ds (requested true t r .table) ∙ settings-request t r
+works-after o [] t works = works
+works-after o (made r ∷ ds) t works = works-after o ds (requested true t r .table) (works-request o t works r)
 
 -- ---- over every list of deeds
 
@@ -203,6 +203,18 @@ module _ (o : Opening) (t : Table) (opened : openStep o ≡ outcome (Accepted Ze
         (subst (λ (n : ℕ). Holds (Used n) id now) (sym same)
         (lasts (Used (q .number)) id since granted sized used-now (used-all id (q .number) (history granted since) stays)))
 
+    -- the line end is still the one that was opened
+    still-asked : Asks (now .settings) q
+    still-asked =
+        let works = agrees o t opened before .settings in
+        let end = works-after o since granted (works-step o then works (Own id (Extend q))) .end ∙ sym (works .end) in
+        record {
+          number-least = asked .number-least;
+          number-most = asked .number-most;
+          length-least = asked .length-least;
+          length-most = rw end (asked .length-most);
+        }
+
     -- as the last accepted one, with its length, it is answered with the end of now and 1
     pub last-repeated : NoOther id (q .number) (history granted since) → (i : ℕ) → placeOf now id ≡ some i
         → step now (Own id (Extend q)) ≡ outcome (Accepted (Extended (trainAt now i .authority .end) true)) now
@@ -210,7 +222,6 @@ module _ (o : Opening) (t : Table) (opened : openStep o ≡ outcome (Accepted Ze
         let h = lasts (Last q) id since granted sized last-now (last-all id q (history granted since) stays other) in
         let here : h .place ≡ i = cc (h .found) in
         let (above, number, length) = subst (λ (n : ℕ). Last q (trainAt now n)) here (h .so) in
-        let same : now .settings ≡ then .settings = settings-after since granted ∙ settings-step then (Own id (Extend q)) in
         own-step now id i found (Extend q) _
-        (extension-repeated (now .settings) (limitAt now i) (trainAt now i) q (subst (λ (σ : Settings). Asks σ q) (sym same) asked) above (sym number) (sym length))
+        (extension-repeated (now .settings) (limitAt now i) (trainAt now i) q still-asked above (sym number) (sym length))
         ∙ ap (outcome (Accepted (Extended (trainAt now i .authority .end) true))) (put-same now i (trainAt now i) refl)

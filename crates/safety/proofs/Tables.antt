@@ -10,7 +10,7 @@ use Rattle.calls.specs.declared.Opening.{Opening}
 use Rattle.train.specs.declared.Settings.{Settings}
 use Rattle.train.specs.declared.Train.{Train}
 use Rattle.train.specs.declared.Limit.{Limit}
-use Rattle.train.specs.Ranges.{settingsOf}
+use Rattle.train.specs.Ranges.{WorksWith}
 use Rattle.train.specs.Track.{limitBehind}
 use Rattle.table.specs.declared.Table.{Table}
 use Rattle.table.specs.Table.{blankTrain, onLine, placeOf, trainAt, aheadOf, limitAt}
@@ -23,7 +23,7 @@ use Rattle.safety.proofs.Line.{Lined, firstLimit, limitIn}
 -- of the line that o opened the history tells l, and the table is t
 pub record Agrees (o : Opening) (l : Line) (t : Table) : Type 0 where
   pub opening : l .opening ≡ o
-  pub settings : t .settings ≡ settingsOf o
+  pub settings : WorksWith o (t .settings)
   pub sized : Sized t
   pub trains : onLine t ≡ map recordOf (l .trains)
   pub lined : Lined (t .settings) (firstLimit (t .settings)) (l .trains)

@@ -13,7 +13,7 @@ use Rattle.motion.specs.Motion.{stands}
 use Rattle.motion.specs.Count.{cyclesToStand}
 use Rattle.calls.specs.declared.Opening.{Opening}
 use Rattle.train.specs.declared.Train.{Train}
-use Rattle.train.specs.Ranges.{settingsOf}
+use Rattle.train.specs.Ranges.{WorksWith}
 use Rattle.train.specs.Record.{trainOf}
 use Rattle.train.specs.Track.{stepsOf}
 use Rattle.table.specs.declared.Table.{Table}
@@ -68,6 +68,6 @@ pub record Demand3 (o : Opening) (t : Table) (ds : List Deed) : Type 0 where
   pub claim : Claim o (history t ds)
   -- the line is still the one that o began
   pub line : told o (history t ds) .opening ≡ o
-  pub settings : after t ds .settings ≡ settingsOf o
+  pub settings : WorksWith o (after t ds .settings)
   pub count : after t ds .count ≡ length (told o (history t ds) .trains)
   pub trains : onLine (after t ds) ≡ map recordOf (told o (history t ds) .trains)

@@ -14,7 +14,8 @@ use borrow.Author.Tests.{eqb-true, eqb-false}
 use Rattle.logic.proofs.Tests.{by-test}
 use Rattle.calls.specs.declared.Opening.{Opening}
 use Rattle.train.specs.declared.Train.{Train}
-use Rattle.train.proofs.Records.{WorksWith, settings-given}
+use Rattle.train.specs.Ranges.{WorksWith}
+use Rattle.train.proofs.Records.{settings-given}
 use Rattle.train.proofs.Track.{InLimit}
 use Rattle.train.proofs.Sentences.{limit-of-the-first, limit-behind}
 use Rattle.table.specs.declared.Table.{Table}

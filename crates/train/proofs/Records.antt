@@ -20,17 +20,11 @@ use Rattle.calls.specs.declared.Entry.{Entry}
 use Rattle.calls.specs.declared.Reading.{Reading}
 use Rattle.train.specs.declared.Settings.{Settings}
 use Rattle.train.specs.declared.Train.{Train}
-use Rattle.train.specs.Ranges.{settingsOf}
+use Rattle.train.specs.Ranges.{settingsOf, WorksWith}
 use Rattle.train.specs.Record.{figuresFor, isBrake}
 use Rattle.train.specs.Report.{allowed, motionAfter, goalOf, moves, mustBrake, orderAfter, computable, reportAllowed}
 
 -- the table works with the numbers that were opened
-pub record WorksWith (o : Opening) (σ : Settings) : Type 0 where
-  pub end : σ .end ≡ o .end
-  pub safety : σ .safety ≡ o .safety
-  pub ceiling : σ .limits .ceiling ≡ o .ceiling
-  pub traction : σ .limits .traction ≡ o .traction
-
 pub settings-given : (o : Opening) → WorksWith o (settingsOf o)
 settings-given o = record { end = refl; safety = refl; ceiling = refl; traction = refl }
 
