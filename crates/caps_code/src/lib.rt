@@ -203,18 +203,13 @@ fn search(k: Figures, goal: u64, m: Motion, high: u64, beyond: u64, list: &mut [
     close_in(k, goal, m, &list[..n], least, high, beyond)
 }
 
-// The order that the goal allows, with its reach: drive with the greatest cap that fits, or brake where none does.
-// The greatest cap allowed is tried first, by a run of its own: on free track it fits, and no list is needed.
-pub fn order_for(k: Figures, l: Limits, goal: u64, m: Motion) -> Offer
-    requires { ⌜ Bounded k m (l .traction) ⌝ }
-    ensures { λ r. ⌜ r ≡ offer k m (orderFor k l goal m) ⌝ }
+// The greatest cap up to `most` that keeps the goal, with its reach, or brake where none does. The greatest itself is tried first, by a run of
+// its own: on free track it keeps the goal, and no list is needed.
+fn order_up_to(k: Figures, goal: u64, m: Motion, most: u64) -> Offer
+    requires { ⌜ Bounded k m most ⌝ }
+    ensures { λ r. ⌜ r ≡ offer k m (greatest (keepsGoal k goal m) most) ⌝ }
 {
     let v = m.speed;
-    let allowed = caps_allowed(k, l, v);
-    if allowed == 0 {
-        return motion_code::offer_of(k, m, Order::Brake);
-    }
-    let most = allowed - 1;
     let reach = motion_code::reach_of(k, m, Order::Drive(most));
     if reach <= goal {
         return Offer {
@@ -228,4 +223,20 @@ pub fn order_for(k: Figures, l: Limits, goal: u64, m: Motion) -> Offer
     }
     let mut long = [0u64; LONGEST_LIST];
     search(k, goal, m, most, reach, &mut long)
+}
+
+// ---- the order
+
+// The order that the goal allows, with its reach: drive with the greatest cap that fits, or brake where none does. Engine and ceiling say how
+// far the search goes.
+pub fn order_for(k: Figures, l: Limits, goal: u64, m: Motion) -> Offer
+    requires { ⌜ Bounded k m (l .traction) ⌝ }
+    ensures { λ r. ⌜ r ≡ offer k m (orderFor k l goal m) ⌝ }
+{
+    let v = m.speed;
+    let allowed = caps_allowed(k, l, v);
+    if allowed == 0 {
+        return motion_code::offer_of(k, m, Order::Brake);
+    }
+    order_up_to(k, goal, m, allowed - 1)
 }
