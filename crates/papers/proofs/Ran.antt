@@ -1,6 +1,10 @@
 -- A session worked out from its text: whoever opens `ran` opens every definition that it takes.
 -- Assumes nothing.
-use mathlib.Core.List.{List, []}
+use Prim.Native.Nat.{ℕ}
+use mathlib.Core.List.{List, [], _∷_, _++_}
+use mathlib.Core.Path.{_≡_, refl, sym, ap, _∙_}
+use lib.Dec.{eqb}
+use Rattle.logic.proofs.Tests.{by-test}
 use Rattle.logic.specs.Rounding.{ceilDiv}
 use Rattle.ranges.specs.Ranges.{between}
 use Rattle.brake.specs.Consist.{carOf, fullBrake, applicationTime, applicationCycles, sheetEntry, entryFor, brakeCycles, figuresWith, figuresBy, figuresOf}
@@ -18,12 +22,48 @@ use Rattle.table.specs.Table.{placeIn, placeOf, aheadOf}
 use Rattle.line.specs.Decide.{openDecision, enterDecision, actDecision, takeOffDecision, decideOn, decided}
 use Rattle.wire.specs.Format.{digit, column, columns, numbersIn, lineRead, left, text, textOf, answerText}
 use Rattle.stream.specs.declared.Session.{Session}
-use Rattle.stream.specs.Session.{lineDecision}
-use Rattle.stream.specs.Input.{lines, rest, after, outputLine, answers}
+use Rattle.stream.specs.Session.{lineDecision, answered}
+use Rattle.stream.specs.Input.{lines, rest, after, outputLine, answers, kept}
 use Rattle.stream.proofs.Lines.{Standing, standing}
 use Rattle.papers.specs.Exchanges.{Exchange, bytesOf, inputOf, outputOf}
 
--- what has been written after lines from the state s on, and how things stand then
+-- ---- one pass
+
+-- how things stand after lines from the state s on, and what has been written. Each line is decided once, for its answer and for the state after it
+unfoldable walked : Session → List (List ℕ) → Standing
+walked s [] = record { session = s; begins = []; written = [] }
+walked s (l ∷ ls) =
+    let r = answered s l in
+    let w = walked (r .session) ls in
+    record { session = w .session; begins = []; written = outputLine (r .answer) ++ w .written }
+
+walked-same : (s : Session) (ls : List (List ℕ)) → walked s ls ≡ record { session = after s ls; begins = []; written = answers s ls }
+unfolding walked after answers
+walked-same s [] = refl
+walked-same s (l ∷ ls) =
+    let r = answered s l in
+    ap (λ (w : Standing). record { session = w .session; begins = []; written = outputLine (r .answer) ++ w .written }) (walked-same (r .session) ls)
+
+-- nothing has begun after a line feed
+none-begun : (g bs cs : List ℕ) → rest g (bs ++ (10 ∷ cs)) ≡ rest [] cs
+unfolding rest
+none-begun g [] cs = refl
+none-begun g (b ∷ bs) cs = by-test (eqb b 10) (λ e. rw e (none-begun [] bs cs)) (λ e. rw e (none-begun (g ++ (b ∷ [])) bs cs))
+
+all-ended : (xs : List Exchange) → rest [] (inputOf xs) ≡ []
+unfolding rest inputOf
+all-ended [] = refl
+all-ended (x ∷ xs) = none-begun [] (bytesOf (x .input)) (inputOf xs) ∙ all-ended xs
+
+-- ---- a session from its text
+
+-- how things stand after lines from the state s on, and what has been written
 unfoldable pub ran : Session → List Exchange → Standing
-unfolding ceilDiv between carOf fullBrake applicationTime applicationCycles sheetEntry entryFor brakeCycles figuresWith figuresBy figuresOf brakeTravel brakeSpeed nextLevel driveTravel driveSpeed stands brakedCycle firstCycles enoughCycles brakedRun totalTravel stoppingDistance stoppingPlace capFits greatest orderFor inBounds firstOf allZero readAs requestOf settingsInRange requestInRange stepsOf limitBehind allowed moves mustBrake orderAfter isPenalty reported computable reportAllowed isRepeat extended isOld callBackAllowed mayLeave placeIn placeOf aheadOf openDecision enterDecision actDecision takeOffDecision decideOn decided mayAsk digit column columns numbersIn lineRead left text textOf answerText lineDecision lines rest after outputLine answers bytesOf inputOf outputOf
-ran s xs = standing s [] [] (inputOf xs)
+unfolding ceilDiv between carOf fullBrake applicationTime applicationCycles sheetEntry entryFor brakeCycles figuresWith figuresBy figuresOf brakeTravel brakeSpeed nextLevel driveTravel driveSpeed stands brakedCycle firstCycles enoughCycles brakedRun totalTravel stoppingDistance stoppingPlace capFits greatest orderFor inBounds firstOf allZero readAs requestOf settingsInRange requestInRange stepsOf limitBehind allowed moves mustBrake orderAfter isPenalty reported computable reportAllowed isRepeat extended isOld callBackAllowed mayLeave placeIn placeOf aheadOf openDecision enterDecision actDecision takeOffDecision decideOn decided mayAsk digit column columns numbersIn lineRead left text textOf answerText lineDecision lines rest after outputLine answers bytesOf inputOf outputOf walked
+ran s xs = walked s (lines [] (inputOf xs))
+
+pub ran-stands : (s : Session) (xs : List Exchange) → ran s xs ≡ standing s [] [] (inputOf xs)
+unfolding ran
+ran-stands s xs =
+    let ls = lines [] (inputOf xs) in
+    walked-same s ls ∙ ap (λ (g : List ℕ). record { session = after s ls; begins = kept g; written = answers s ls }) (sym (all-ended xs))

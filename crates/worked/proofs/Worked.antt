@@ -10,7 +10,7 @@ use Rattle.stream.proofs.Lines.{Standing, standing, standing-kept, standing-cut
 use Rattle.stream.proofs.Pieces.{last-kept}
 use Rattle.papers.specs.Exchanges.{Exchange, bytesOf, inputOf, outputOf}
 use Rattle.worked.specs.Worked.{firstPart, afterFirst, secondPart, afterSecond, thirdPart, afterThird, fourthPart, unfinished, workedInput, workedOutput}
-use Rattle.papers.proofs.Ran.{ran}
+use Rattle.papers.proofs.Ran.{ran, ran-stands}
 
 -- the lines xs, answered as they say from the state s on, leave the state t
 abbrev Ruled : Session → List Exchange → Session → Type 0
@@ -51,7 +51,7 @@ unfolding ran
 part s xs t e w b =
     standing-cut s [] w (inputOf xs) b
     ∙ sym (standing-kept (after s (lines [] (inputOf xs))) (rest [] (inputOf xs)) (w ++ answers s (lines [] (inputOf xs))) b)
-    ∙ ap (λ (x : Standing). standing (x .session) (x .begins) (w ++ x .written) b) e
+    ∙ ap (λ (x : Standing). standing (x .session) (x .begins) (w ++ x .written) b) (sym (ran-stands s xs) ∙ e)
 
 last : (s : Session) (w : List ℕ) → let x = standing s [] w (bytesOf (unfinished .input)) in
     x .written ++ lastAnswer (x .begins) ≡ w ++ outputOf (unfinished ∷ [])
