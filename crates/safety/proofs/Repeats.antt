@@ -41,10 +41,19 @@ use Rattle.safety.proofs.Calls.{agrees}
 
 -- ---- what stays true over a list of deeds
 
--- each deed keeps it
+-- a deed with this answer number keeps it
 abbrev KeepsBy : (Train → Type 0) → ℕ → ℕ → Deed → Type 0
 KeepsBy Q id n (made r) = Keeps Q id n (r .asks)
 
+-- an event's deed keeps it where a request, if it is one, does
+kept-by : (Q : Train → Type 0) (id : ℕ) (e : Event) → ((r : Request) → e .deed ≡ made r → Keeps Q id (e .answer .number) (r .asks))
+    → KeepsBy Q id (e .answer .number) (e .deed)
+kept-by Q id e keeps = go (e .deed) refl
+  where
+    go : (d : Deed) → e .deed ≡ d → KeepsBy Q id (e .answer .number) d
+    go (made r) is = keeps r is
+
+-- each of them keeps it
 abbrev KeepsAll : (Train → Type 0) → ℕ → List Event → Type 0
 KeepsAll Q id [] = Unit {0}
 KeepsAll Q id (e ∷ es) = KeepsBy Q id (e .answer .number) (e .deed) × KeepsAll Q id es
@@ -88,10 +97,8 @@ module _ (id n : ℕ) where
 
   used-all : (es : List Event) → Stays id es → KeepsAll (Used n) id es
   used-all [] stays = tt
-  used-all (e ∷ es) stays = (go (e .deed) refl, used-all es (stays .1))
-    where
-      go : (d : Deed) → e .deed ≡ d → KeepsBy (Used n) id (e .answer .number) d
-      go (made r) is = used-kept (r .asks) (e .answer .number) (λ asks zero. stays .0 (takes e r _ is asks zero))
+  used-all (e ∷ es) stays =
+      (kept-by (Used n) id e (λ r is. used-kept (r .asks) (e .answer .number) (λ asks zero. stays .0 (takes e r _ is asks zero))), used-all es (stays .1))
 
 -- an extension with a number that was accepted in this stay leaves the whole table
 used-leaves : (t : Table) (id : ℕ) (q : Asked) → Holds (Used (q .number)) id t → step t (Own id (Extend q)) .table ≡ t
@@ -142,11 +149,11 @@ module _ (id : ℕ) (q : Asked) where
 
   last-all : (es : List Event) → Stays id es → NoOther id (q .number) es → KeepsAll (Last q) id es
   last-all [] stays other = tt
-  last-all (e ∷ es) stays other = (go (e .deed) refl, last-all es (stays .1) (other .1))
-    where
-      go : (d : Deed) → e .deed ≡ d → KeepsBy (Last q) id (e .answer .number) d
-      go (made r) is =
-          last-kept (r .asks) (e .answer .number) (λ asks zero. stays .0 (takes e r _ is asks zero)) (λ p asks zero. other .0 p (takes e r _ is asks zero))
+  last-all (e ∷ es) stays other = (
+    kept-by (Last q) id e
+        (λ r is. last-kept (r .asks) (e .answer .number) (λ asks zero. stays .0 (takes e r _ is asks zero)) (λ p asks zero. other .0 p (takes e r _ is asks zero))),
+    last-all es (stays .1) (other .1),
+  )
 
 works-after : (o : Opening) (ds : List Deed) (t : Table) → WorksWith o (t .settings) → WorksWith o (after t ds .settings)
 unfolding after
