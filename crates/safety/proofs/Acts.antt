@@ -35,7 +35,7 @@ use Rattle.train.specs.declared.Authority.{Authority}
 use Rattle.train.specs.declared.Train.{Train}
 use Rattle.train.specs.declared.Limit.{Limit}
 use Rattle.train.specs.Track.{withinLimit}
-use Rattle.train.specs.Record.{isBrake}
+use Rattle.train.specs.Record.{endingAt, isBrake}
 use Rattle.train.specs.Report.{reachOf, allowed, motionAfter, moves, orderAfter, isPenalty, reported}
 use Rattle.acts.specs.Acts.{isRepeat, granted, extended}
 use Rattle.acts.specs.Decide.{Ruling, decide}
@@ -43,7 +43,7 @@ use Rattle.train.proofs.Records.{held-brakes, penalty-brakes}
 use Rattle.train.proofs.Track.{InLimit, limit-tested, limit-below}
 use Rattle.train.proofs.Checks.{report-allowed, allowed-head, allowed-no-worse}
 use Rattle.acts.proofs.Checks.{call-back-allowed}
-use Rattle.safety.specs.History.{Counts, Told, levelAfter, orderIn, brakedAfter, longer, upTo, still, toldAct}
+use Rattle.safety.specs.History.{Counts, Told, levelAfter, orderIn, brakedAfter, longer, still, toldAct}
 use Rattle.safety.specs.Claim.{recordOf}
 use Rattle.safety.proofs.Train.{Guarded, guarded-report, guarded-still}
 
@@ -219,7 +219,7 @@ module _ (σ : Settings) (limit : Limit) (x : Told) (steady : Steady σ limit x)
       let (low, high) = call-back-allowed (recordOf x) p (passed _ _ _ e .0) in
       record {
         told = refl;
-        keeps = steady-still (upTo (x .now .authority) p) (x .now .counts .held) (limit-below limit high (steady .guarded .end-in-limit)) low (steady .held-slows);
+        keeps = steady-still (endingAt (x .now .authority) p) (x .now .counts .held) (limit-below limit high (steady .guarded .end-in-limit)) low (steady .held-slows);
         onward = le-refl _;
         within = tt;
       }

@@ -40,7 +40,7 @@ use Rattle.line.specs.declared.Decision.{Decision}
 use Rattle.line.specs.Decide.{refused, accepted, rulingAt, decided}
 use Rattle.line.specs.Step.{outcome, carriedOut, openStep}
 use Rattle.line.proofs.Steps.{Admitted, any-call, any-request, open-made}
-use Rattle.safety.specs.History.{Deed, made, answerTo, leftBy, Event, history, after, isAccepted, Told, toldEntering, Line, opened, withTrains, toldCall, toldBy, told}
+use Rattle.safety.specs.History.{Deed, made, done, Event, history, after, isAccepted, Told, toldEntering, Line, opened, withTrains, toldCall, toldBy, told}
 use Rattle.safety.specs.Claim.{recordOf}
 use Rattle.safety.proofs.Train.{guarded-entering}
 use Rattle.safety.proofs.Acts.{Steady}
@@ -136,7 +136,7 @@ module _ (o : Opening) (l : Line) (t : Table) (A : Agrees o l t) where
 
   -- ---- any deed
 
-  next-deed : (d : Deed) → Agrees o (toldBy l (record { deed = d; answer = answerTo t d })) (leftBy t d)
+  next-deed : (d : Deed) → Agrees o (toldBy l (record { deed = d; answer = numbersOf (done t d .answer) })) (done t d .table)
   next-deed (made r) = next-request r
 
 -- ---- every list of deeds

@@ -23,21 +23,18 @@ use Rattle.calls.specs.Answers.{numbersOf}
 use Rattle.train.specs.declared.Authority.{Authority}
 use Rattle.train.specs.Track.{stepsOf}
 use Rattle.table.specs.declared.Table.{Table}
+use Rattle.line.specs.declared.Outcome.{Outcome}
 use Rattle.line.specs.Step.{requested}
 
 -- what may stand in a list on an opened line: a request that is made
 pub data Deed : Type 0 where
   made : Request → Deed
 
--- its answer: the number and the three values
-abbrev pub answerTo : Table → Deed → Numbers
-answerTo t (made r) = numbersOf (requested true t r .answer)
+-- its answer, and the table after it
+abbrev pub done : Table → Deed → Outcome
+done t (made r) = requested true t r
 
--- the table after it
-abbrev pub leftBy : Table → Deed → Table
-leftBy t (made r) = requested true t r .table
-
--- a deed with its answer
+-- a deed with its answer: the number and the three values
 pub record Event : Type 0 where
   pub deed : Deed
   pub answer : Numbers
@@ -45,11 +42,11 @@ pub record Event : Type 0 where
 -- deeds on an opened line, each on the table that the one before it left: the history, oldest first, and the table after them
 unfoldable pub history : Table → List Deed → List Event
 history t [] = []
-history t (d ∷ ds) = record { deed = d; answer = answerTo t d } ∷ history (leftBy t d) ds
+history t (d ∷ ds) = record { deed = d; answer = numbersOf (done t d .answer) } ∷ history (done t d .table) ds
 
 unfoldable pub after : Table → List Deed → Table
 after t [] = t
-after t (d ∷ ds) = after (leftBy t d) ds
+after t (d ∷ ds) = after (done t d .table) ds
 
 -- answer 0 is acceptance
 unfoldable pub isAccepted : Event → Bool
@@ -94,11 +91,8 @@ lent e s n l = record { end = e; start = s; number = n; asked = l }
 -- Enter is answered with B and j. The train stands at its head under full brake and has no other track. Nothing is counted.
 abbrev pub toldEntering : Entry → Numbers → Told
 toldEntering e r =
-    record {
-      entry = e;
-      figures = record { full = r .first; growth = r .second };
-      now = stateOf (record { head = e .head; speed = 0 }) (r .first) Brake (lent (e .head) (e .start) (e .start) 0) freshCounts;
-    }
+    let s = stateOf (record { head = e .head; speed = 0 }) (r .first) Brake (lent (e .head) (e .start) (e .start) 0) freshCounts in
+    record { entry = e; figures = record { full = r .first; growth = r .second }; now = s }
 
 -- 0 after a driven cycle, the next level after a braked one
 abbrev pub levelAfter : Figures → Order → ℕ → ℕ
@@ -121,10 +115,6 @@ abbrev pub longer : Authority → Asked → Authority
 longer a q =
     cond (eqb (q .number) (a .number)) a (lent (a .end + q .length) (a .start) (q .number) (q .length))
 
--- a call back lends it up to another end
-abbrev pub upTo : Authority → ℕ → Authority
-upTo a p = lent p (a .start) (a .number) (a .asked)
-
 -- another authority, or other counts
 abbrev pub still : State → Authority → Counts → State
 still s a n = stateOf (s .last) (s .level) (s .order) a n
@@ -136,7 +126,7 @@ toldAct k s n (Report r) =
     stateOf r level (orderIn n) (s .authority)
     (record { held = Option·map suc (s .counts .held); braked = brakedAfter (stands k (r .speed) level) (orderIn n) (s .counts .braked) })
 toldAct k s n (Extend q) = still s (longer (s .authority) q) (s .counts)
-toldAct k s n (CallBack p) = still s (upTo (s .authority) p) (s .counts)
+toldAct k s n (CallBack p) = still s (lent p (s .authority .start) (s .authority .number) (s .authority .asked)) (s .counts)
 -- held already, it goes on counting
 toldAct k s n Hold = still s (s .authority) (record { held = some (Option·getD (s .counts .held) 0); braked = s .counts .braked })
 toldAct k s n Lift = still s (s .authority) (record { held = none; braked = s .counts .braked })
