@@ -8,7 +8,7 @@ use Rattle.calls.specs.declared.Asked.{Asked}
 use Rattle.train.specs.declared.Settings.{Settings}
 use Rattle.train.specs.declared.Authority.{Authority}
 use Rattle.train.specs.declared.Train.{Train}
-use Rattle.train.specs.Record.{authorityTo, endingAt, authorised, marked, withHeld, isBrake}
+use Rattle.train.specs.Record.{authorityTo, endingAt, same, authorised, isBrake}
 use Rattle.train.specs.Report.{reachOf, computable}
 
 -- a request: its number, and its length from 1 to the line end
@@ -39,9 +39,9 @@ calledBack x place = authorised x (endingAt (x .authority) place)
 unfoldable pub callBackAllowed : Train → ℕ → Bool
 callBackAllowed x place = computable x && between (reachOf x) (x .authority .end) place
 
--- Hold and lift: the mark of a hold alone, which the next report reads
+-- Hold and lift: the mark of a hold alone, which the next report reads; a penalty brake stays on
 abbrev pub holding : Train → Bool → Train
-holding x b = marked x (withHeld (x .marks) b)
+holding x b = same x (x .motion) (x .order) (x .authority) (record { held = b; penalty = x .marks .penalty })
 
 -- Take off: the first train, standing under brake
 unfoldable pub mayLeave : ℕ → Train → Bool

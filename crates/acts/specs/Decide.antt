@@ -31,11 +31,8 @@ pub record Ruling : Type 0 where
 -- Report: 9
 abbrev pub reporting : Settings → Train → Reading → Ruling
 reporting σ x r =
-    record {
-      checks = check (not (reportAllowed σ x r)) NotAllowed ∷ [];
-      gives = Ordered (reported σ x r .order) (reachOf (reported σ x r));
-      after = reported σ x r;
-    }
+    let y = reported σ x r in
+    record { checks = check (not (reportAllowed σ x r)) NotAllowed ∷ []; gives = Ordered (y .order) (reachOf y); after = y }
 
 -- Extend: 10, 11, 12, repeat, 13
 abbrev pub extending : Settings → Limit → Train → Asked → Ruling

@@ -37,7 +37,8 @@ use Rattle.table.specs.declared.Change.{Change}
 use Rattle.table.specs.Table.{placeOf}
 use Rattle.line.specs.declared.Outcome.{Outcome}
 use Rattle.line.specs.Decide.{judged, openDecision, enterChecks, enterDecision, rulingAt, actDecision, takeOffDecision, named, decideOn, outOfTurn, decided}
-use Rattle.line.specs.Step.{outcome, requested, noTable, openStep, step}
+use Rattle.line.specs.Step.{outcome, requested, noTable, openStep}
+use Rattle.line.proofs.Steps.{step}
 
 -- ---- without the right
 

@@ -45,8 +45,8 @@ use Rattle.table.specs.Table.{placeOf, trainAt, limitAt, changed}
 use Rattle.table.proofs.Places.{FoundAt}
 use Rattle.line.specs.declared.Decision.{Decision}
 use Rattle.line.specs.Decide.{refused, accepted, openDecision, enterDecision, rulingAt, decideOn, decided}
-use Rattle.line.specs.Step.{outcome, carriedOut, requested, openStep, step}
-use Rattle.line.proofs.Steps.{any-call, any-request, open-taken, open-refused, open-made, enter-unfit, enter-fit, enter-bad, enter-known, enter-full, enter-short, enter-beyond, enter-taken, own-unknown, take-off-unknown, placed, own-found, take-off-refused, take-off-taken}
+use Rattle.line.specs.Step.{outcome, carriedOut, requested, openStep}
+use Rattle.line.proofs.Steps.{step, any-call, any-request, open-taken, open-refused, open-made, enter-unfit, enter-fit, enter-bad, enter-known, enter-full, enter-short, enter-beyond, enter-taken, own-unknown, take-off-unknown, placed, own-found, take-off-refused, take-off-taken}
 
 -- ---- a refusal gives its number and zeros, and the whole table stays
 

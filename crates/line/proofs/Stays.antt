@@ -36,8 +36,8 @@ use Rattle.table.proofs.Trains.{Sized, sized-with, sized-last, sized-without-fi
 use Rattle.table.proofs.Sentences.{FirstWith, found-exactly, put-leaves, add-leaves, drop-leaves}
 use Rattle.line.specs.declared.Decision.{Decision}
 use Rattle.line.specs.Decide.{refused, rulingAt}
-use Rattle.line.specs.Step.{requested, step}
-use Rattle.line.proofs.Steps.{any-call, any-request}
+use Rattle.line.specs.Step.{requested}
+use Rattle.line.proofs.Steps.{step, any-call, any-request}
 
 -- ---- the table has its 32 places, and no more are in use
 

@@ -50,7 +50,11 @@ use Rattle.table.proofs.Places.{found-among, found-below, not-found, FoundAt}
 use Rattle.line.specs.declared.Decision.{Decision}
 use Rattle.line.specs.declared.Outcome.{Outcome}
 use Rattle.line.specs.Decide.{refused, accepted, judged, openDecision, enterChecks, enterDecision, rulingAt, actDecision, takeOffDecision, named, decideOn, outOfTurn, decided}
-use Rattle.line.specs.Step.{outcome, openStep}
+use Rattle.line.specs.Step.{outcome, carriedOut, openStep}
+
+-- what a call but open comes to by a caller with the right (Rights: call-rightful)
+unfoldable pub step : Table → Call → Outcome
+step t c = carriedOut t (decideOn t (OnTable c))
 
 -- ---- any call: refused, or accepted with all checks passed
 

@@ -1,8 +1,6 @@
 -- Decide, then change: the answer and the table after it.
 use mathlib.Core.Bool.{Bool}
 use Rattle.calls.specs.declared.Opening.{Opening}
-use Rattle.calls.specs.declared.Call.{Call}
-use Rattle.calls.specs.declared.Ask.the-variants.{OnTable}
 use Rattle.calls.specs.declared.Request.{Request}
 use Rattle.calls.specs.declared.Answer.{Answer}
 use Rattle.train.specs.Ranges.{settingsOf}
@@ -10,7 +8,7 @@ use Rattle.table.specs.declared.Table.{Table}
 use Rattle.table.specs.Table.{emptyTable, changed}
 use Rattle.line.specs.declared.Decision.{Decision}
 use Rattle.line.specs.declared.Outcome.{Outcome}
-use Rattle.line.specs.Decide.{openDecision, decideOn, decided}
+use Rattle.line.specs.Decide.{openDecision, decided}
 
 abbrev pub outcome : Answer → Table → Outcome
 outcome a t = record { answer = a; table = t }
@@ -26,9 +24,6 @@ requested opened t r = carriedOut t (decided opened t r)
 abbrev pub noTable : Table
 noTable = emptyTable (settingsOf (record { end = 0; safety = 0; ceiling = 0; traction = 0 }))
 
--- what a call comes to by a caller with the right: any but open, and open
-unfoldable pub step : Table → Call → Outcome
-step t c = carriedOut t (decideOn t (OnTable c))
-
+-- what an opening comes to, by the dispatcher
 unfoldable pub openStep : Opening → Outcome
 openStep o = carriedOut noTable (openDecision o)

@@ -42,7 +42,8 @@ use Rattle.table.specs.declared.Change.the-variants.{Put}
 use Rattle.table.specs.Table.{placeOf, trainAt, limitAt, changed}
 use Rattle.table.proofs.Places.{found-below, put-same}
 use Rattle.table.proofs.Sentences.{limit-in-front, limit-further-back}
-use Rattle.line.specs.Step.{outcome, openStep, step}
+use Rattle.line.specs.Step.{outcome, openStep}
+use Rattle.line.proofs.Steps.{step}
 use Rattle.line.proofs.Rules.{own-step}
 use Rattle.safety.specs.History.{Deed, after}
 use Rattle.safety.specs.Claim.{recordOf}

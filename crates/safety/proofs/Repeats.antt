@@ -33,7 +33,8 @@ use Rattle.table.specs.Table.{placeOf, trainAt, limitAt}
 use Rattle.table.proofs.Places.{found-below, still-found, still-there, put-same}
 use Rattle.table.proofs.Trains.{Sized}
 use Rattle.line.specs.Decide.{rulingAt}
-use Rattle.line.specs.Step.{outcome, requested, openStep, step}
+use Rattle.line.specs.Step.{outcome, requested, openStep}
+use Rattle.line.proofs.Steps.{step}
 use Rattle.line.proofs.Rules.{own-step}
 use Rattle.line.proofs.Stays.{Holds, Keeps, still-holds, sized-step, sized-request, works-step, works-request, own-accepted}
 use Rattle.safety.specs.History.{Deed, made, Event, history, after, isAccepted}

@@ -24,8 +24,7 @@ use Rattle.table.specs.declared.Table.{Table}
 use Rattle.table.specs.Table.{emptyTable}
 use Rattle.line.specs.declared.Outcome.{Outcome}
 use Rattle.line.specs.Decide.{decideOn, decided}
-use Rattle.line.specs.Step.{step}
-use Rattle.line.proofs.Steps.{open-taken, open-refused}
+use Rattle.line.proofs.Steps.{step, open-taken, open-refused}
 use Rattle.line.proofs.Rights.{call-16, open-16, call-rightful}
 use Rattle.line.proofs.Rules.{refusal-keeps, call-2, open-2, open-3, open-accepted}
 use Rattle.wire.specs.Format.{lineRead, left, text, textOf, answerText}

@@ -31,10 +31,8 @@ lineDecision s Unreadable = refused BadLine
 -- Answer 0 is acceptance: from then on the session is open. A refusal changes nothing.
 abbrev pub replied : Session → Decision → Reply
 replied s d =
-    record {
-      answer = numbersOf (d .answer);
-      session = session (s .opened || eqb (numbersOf (d .answer) .number) 0) (changed (s .table) (d .change));
-    }
+    let n = numbersOf (d .answer) in
+    record { answer = n; session = session (s .opened || eqb (n .number) 0) (changed (s .table) (d .change)) }
 
 -- the answer to a line without its line feed
 abbrev pub answered : Session → List ℕ → Reply

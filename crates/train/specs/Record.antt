@@ -48,17 +48,6 @@ same x m o a ms = trainOf (x .id) (x .length) (x .figures) m o a ms
 abbrev pub authorised : Train → Authority → Train
 authorised x a = same x (x .motion) (x .order) a (x .marks)
 
-abbrev pub marked : Train → Marks → Train
-marked x ms = same x (x .motion) (x .order) (x .authority) ms
-
--- the mark of a hold, set or taken away; a penalty brake stays on
-abbrev pub withHeld : Marks → Bool → Marks
-withHeld ms b = record { held = b; penalty = ms .penalty }
-
--- the mark of a penalty brake
-abbrev pub withPenalty : Marks → Bool → Marks
-withPenalty ms b = record { held = ms .held; penalty = b }
-
 -- whether an order is brake
 abbrev pub isBrake : Order → Bool
 isBrake (Drive c) = false

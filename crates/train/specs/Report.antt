@@ -12,7 +12,7 @@ use Rattle.motion.specs.Bounds.{inBounds}
 use Rattle.calls.specs.declared.Reading.{Reading}
 use Rattle.train.specs.declared.Settings.{Settings}
 use Rattle.train.specs.declared.Train.{Train}
-use Rattle.train.specs.Record.{same, withPenalty, isBrake}
+use Rattle.train.specs.Record.{same, isBrake}
 
 -- worst case of a train's last order
 abbrev pub worstOf : Train → Motion
@@ -53,7 +53,7 @@ isPenalty k m o = isBrake o && moves k m
 
 -- the record with this motion and order; a penalty brake marks it, and any other order takes the mark away
 abbrev pub ordered : Train → Motion → Order → Train
-ordered x m o = same x m o (x .authority) (withPenalty (x .marks) (isPenalty (x .figures) m o))
+ordered x m o = same x m o (x .authority) (record { held = x .marks .held; penalty = isPenalty (x .figures) m o })
 
 -- the record after an accepted report
 unfoldable pub reported : Settings → Train → Reading → Train
