@@ -112,8 +112,7 @@ brakedAfter false (Drive c) n = Option·map suc n
 
 -- a new number adds its length, and the last one again adds none
 abbrev pub longer : Authority → Asked → Authority
-longer a q =
-    cond (eqb (q .number) (a .number)) a (lent (a .end + q .length) (a .start) (q .number) (q .length))
+longer a q = cond (eqb (q .number) (a .number)) a (lent (a .end + q .length) (a .start) (q .number) (q .length))
 
 -- another authority, or other counts
 abbrev pub still : State → Authority → Counts → State
