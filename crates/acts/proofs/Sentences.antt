@@ -17,9 +17,10 @@ use Rattle.ranges.proofs.Sentences.{request-number}
 use Rattle.motion.specs.declared.Motion.{Motion}
 use Rattle.motion.specs.declared.Order.the-variants.{Brake}
 use Rattle.motion.specs.Motion.{stands}
-use Rattle.motion.specs.Orders.{reach}
+use Rattle.motion.specs.Orders.{isBrake, reach}
+use Rattle.motion.proofs.Sentences.{brake-tested}
 use Rattle.calls.specs.declared.Reading.{Reading}
-use Rattle.calls.specs.declared.Asked.{Asked}
+use Rattle.calls.specs.declared.Extension.{Extension}
 use Rattle.calls.specs.declared.Act.{Act}
 use Rattle.calls.specs.declared.Act.the-variants.{Report, Extend, CallBack, Hold, Lift}
 use Rattle.calls.specs.declared.Refusal.{Refusal}
@@ -33,12 +34,12 @@ use Rattle.train.specs.declared.Train.{Train}
 use Rattle.train.specs.declared.Limit.{Limit}
 use Rattle.acts.specs.declared.Verdict.{Verdict}
 use Rattle.acts.specs.declared.Verdict.the-variants.{TurnedDown, Passed}
-use Rattle.train.specs.Record.{same, isBrake}
+use Rattle.train.specs.Record.{same}
 use Rattle.train.specs.Report.{worstOf, reachOf, orderAfter, isPenalty, reported, computable, reportAllowed}
 use Rattle.acts.specs.Acts.{requestInRange, isOld, isRepeat, extended, callBackAllowed, mayLeave}
 use Rattle.acts.specs.Decide.{decide, verdict}
 use Rattle.train.proofs.Track.{InLimit, limit-within, limit-beyond}
-use Rattle.train.proofs.Records.{report-passed, brake-tested}
+use Rattle.train.proofs.Records.{report-passed}
 use Rattle.train.proofs.Sentences.{report-exactly, penalty-order}
 use Rattle.acts.proofs.Verdicts.{report-refused, report-taken, extend-bad, extend-old, extend-other, extend-repeat, extend-beyond, extend-new, call-back-refused, call-back-taken}
 
@@ -67,26 +68,26 @@ module _ (σ : Settings) (limit : Limit) (x : Train) (r : Reading) where
 -- ---- extend
 
 -- "request number 1 to 4,294,967,295", "a length of 1 to the line end"
-pub record Asks (σ : Settings) (q : Asked) : Type 0 where
+pub record WellFormed (σ : Settings) (q : Extension) : Type 0 where
   pub number-least : 1 ≤ q .number
   pub number-most : q .number ≤ 4294967295
   pub length-least : 1 ≤ q .length
   pub length-most : q .length ≤ σ .end
 
-asks : (σ : Settings) (q : Asked) → requestInRange σ q ≡ true → Asks σ q
+well-formed : (σ : Settings) (q : Extension) → requestInRange σ q ≡ true → WellFormed σ q
 unfolding requestInRange
-asks σ q e =
+well-formed σ q e =
     let tests = both (numberInRange (q .number)) (between 1 (σ .end) (q .length)) e in
     let number = request-number (q .number) .0 (tests .0) in
     let length = between-exactly 1 (σ .end) (q .length) .0 (tests .1) in
     record { number-least = number .0; number-most = number .1; length-least = length .0; length-most = length .1 }
 
-ranged : (σ : Settings) (q : Asked) → Asks σ q → requestInRange σ q ≡ true
+ranged : (σ : Settings) (q : Extension) → WellFormed σ q → requestInRange σ q ≡ true
 unfolding requestInRange
 ranged σ q a =
     rw (request-number (q .number) .1 (a .number-least, a .number-most), between-exactly 1 (σ .end) (q .length) .1 (a .length-least, a .length-most))
 
-module _ (σ : Settings) (limit : Limit) (x : Train) (q : Asked) where
+module _ (σ : Settings) (limit : Limit) (x : Train) (q : Extension) where
   abbrev extension : Verdict
   extension = verdict (decide σ limit x (Extend q))
 
@@ -94,10 +95,10 @@ module _ (σ : Settings) (limit : Limit) (x : Train) (q : Asked) where
   mine = x .authority
 
   -- 10 "request number or length out of range"
-  pub extension-10 : (Asks σ q → ⊥) → extension ≡ TurnedDown BadRequest
-  extension-10 out = by-test (requestInRange σ q) (λ e. absurd (out (asks σ q e))) (λ e. extend-bad σ x limit q e)
+  pub extension-10 : (WellFormed σ q → ⊥) → extension ≡ TurnedDown BadRequest
+  extension-10 out = by-test (requestInRange σ q) (λ e. absurd (out (well-formed σ q e))) (λ e. extend-bad σ x limit q e)
 
-  module _ (a : Asks σ q) where
+  module _ (a : WellFormed σ q) where
     -- 11 "number at or below the starting number, or below the last accepted"
     pub extension-11 : (q .number ≤ mine .start) ⊎ (q .number < mine .number) → extension ≡ TurnedDown OldNumber
     unfolding isOld
@@ -113,11 +114,11 @@ module _ (σ : Settings) (limit : Limit) (x : Train) (q : Asked) where
       fresh h = rw (lt-leb _ _ above, le-ltb _ _ h)
 
       -- 12 "last accepted number with another length"
-      pub extension-12 : q .number ≡ mine .number → (q .length ≡ mine .asked → ⊥) → extension ≡ TurnedDown OtherLength
+      pub extension-12 : q .number ≡ mine .number → (q .length ≡ mine .length → ⊥) → extension ≡ TurnedDown OtherLength
       extension-12 e other = extend-other σ x limit q (ranged σ q a) (fresh (omega arith)) e other
 
       -- "The last accepted number with the same length changes nothing and is answered with the end of now"
-      pub extension-repeated : q .number ≡ mine .number → q .length ≡ mine .asked → extension ≡ Passed (Extended (mine .end) true) x
+      pub extension-repeated : q .number ≡ mine .number → q .length ≡ mine .length → extension ≡ Passed (Extended (mine .end) true) x
       extension-repeated e f = extend-repeat σ x limit q (ranged σ q a) (fresh (omega arith)) e f
 
       -- 13 "new end beyond the limit"
@@ -129,7 +130,7 @@ module _ (σ : Settings) (limit : Limit) (x : Train) (q : Asked) where
       pub extension-taken : mine .number < q .number → InLimit limit (mine .end + q .length)
           → extension
           ≡ Passed (Extended (mine .end + q .length) false)
-          (same x (x .motion) (x .order) (record { end = mine .end + q .length; start = mine .start; number = q .number; asked = q .length }) (x .marks))
+          (same x (x .motion) (x .order) (record { end = mine .end + q .length; start = mine .start; number = q .number; length = q .length }) (x .marks))
       extension-taken new near =
           extend-new σ x limit q (ranged σ q a) (fresh (omega arith)) (λ e. omega arith) (limit-within limit _ near)
 
@@ -139,24 +140,24 @@ module _ (σ : Settings) (limit : Limit) (x : Train) (q : Asked) where
   extension-used above used =
       by-test (requestInRange σ q)
       (λ e.
-      let a = asks σ q e in
+      let a = well-formed σ q e in
       by-cases (decLt (q .number) (mine .number))
       (λ low. inl (OldNumber, extension-11 a (inr low)))
       (λ high.
       let last : q .number ≡ mine .number = omega arith in
-      by-cases (ℕ-discrete (q .length) (mine .asked))
+      by-cases (ℕ-discrete (q .length) (mine .length))
       (λ same. inr (extension-repeated a above last same))
       (λ other. inl (OtherLength, extension-12 a above last other))))
       (λ e. inl (BadRequest, extension-10 (λ a. not-both (ranged σ q a) e)))
 
   -- what an accepted extension has passed and leaves: its number and length are the last accepted ones
   pub record Accepts : Type 0 where
-    pub asked : Asks σ q
+    pub formed : WellFormed σ q
     pub above : mine .start < q .number
     pub onward : mine .number ≤ q .number
     pub start : extended x q .authority .start ≡ mine .start
     pub number : extended x q .authority .number ≡ q .number
-    pub length : extended x q .authority .asked ≡ q .length
+    pub length : extended x q .authority .length ≡ q .length
 
   pub extension-accepted : firstOf (decide σ limit x (Extend q) .checks) ≡ none → Accepts
   unfolding isOld isRepeat extended
@@ -165,12 +166,12 @@ module _ (σ : Settings) (limit : Limit) (x : Train) (q : Asked) where
       let old = passed _ _ _ (range .1) in
       let other = passed _ _ _ (old .1) in
       let two = neither (leb (q .number) (mine .start)) (ltb (q .number) (mine .number)) (old .0) in
-      let (start, number, length) : (extended x q .authority .start ≡ mine .start) × (extended x q .authority .number ≡ q .number) × (extended x q .authority .asked ≡ q .length) =
+      let (start, number, length) : (extended x q .authority .start ≡ mine .start) × (extended x q .authority .number ≡ q .number) × (extended x q .authority .length ≡ q .length) =
       by-test (eqb (q .number) (mine .number))
       (λ repeat. rw repeat (refl, sym (eqb-true _ _ repeat), sym (eqb-true _ _ (not-false _ (rw repeat at (other .0))))))
       (λ new. rw new (refl, refl, refl)) in
       record {
-        asked = asks σ q (not-false _ (range .0));
+        formed = well-formed σ q (not-false _ (range .0));
         above = leb-false _ _ (two .0);
         onward = ltb-false _ _ (two .1);
         start = start;
@@ -196,7 +197,7 @@ module _ (σ : Settings) (limit : Limit) (x : Train) (place : ℕ) where
   pub call-back-moves : computable x ≡ true → reachOf x ≤ place → place ≤ x .authority .end
       → calling
       ≡ Passed Zeros
-      (same x (x .motion) (x .order) (record { end = place; start = x .authority .start; number = x .authority .number; asked = x .authority .asked }) (x .marks))
+      (same x (x .motion) (x .order) (record { end = place; start = x .authority .start; number = x .authority .number; length = x .authority .length }) (x .marks))
   call-back-moves computes low high = call-back-taken x place (call-back-tested x place computes ∙ between-exactly _ _ place .1 (low, high))
 
   -- 14 "place below reach or above end"
@@ -259,7 +260,7 @@ leaves-exactly i x = (only, exactly)
 pub record Leaves (a : Act) (x y : Train) : Type 0 where
   pub id : y .id ≡ x .id
   pub start : y .authority .start ≡ x .authority .start
-  pub numbers : ((q : Asked) × (a ≡ Extend q) × (y ≡ extended x q)) ⊎ ((y .authority .number ≡ x .authority .number) × (y .authority .asked ≡ x .authority .asked))
+  pub numbers : ((q : Extension) × (a ≡ Extend q) × (y ≡ extended x q)) ⊎ ((y .authority .number ≡ x .authority .number) × (y .authority .length ≡ x .authority .length))
 
 pub act-leaves : (σ : Settings) (limit : Limit) (x : Train) (a : Act) → Leaves a x (decide σ limit x a .after)
 unfolding reported extended
@@ -280,9 +281,9 @@ number-onward σ limit x a passes = go (act-leaves σ limit x a .numbers)
     y : Train
     y = decide σ limit x a .after
 
-    go : ((q : Asked) × (a ≡ Extend q) × (y ≡ extended x q)) ⊎ ((y .authority .number ≡ x .authority .number) × (y .authority .asked ≡ x .authority .asked))
+    go : ((q : Extension) × (a ≡ Extend q) × (y ≡ extended x q)) ⊎ ((y .authority .number ≡ x .authority .number) × (y .authority .length ≡ x .authority .length))
         → x .authority .number ≤ y .authority .number
     go (inl (q, e, longer)) =
         let p = extension-accepted σ limit x q (subst (λ (b : Act). firstOf (decide σ limit x b .checks) ≡ none) e passes) in
         rw (longer, p .number) (p .onward)
-    go (inr (number, asked)) = omega arith
+    go (inr (number, length)) = omega arith

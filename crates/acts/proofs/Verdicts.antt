@@ -5,7 +5,7 @@ use mathlib.Core.Bool.{true, false}
 use mathlib.Core.Path.{_≡_}
 use borrow.Author.Tests.{eq-eqb, ne-eqb}
 use Rattle.calls.specs.declared.Reading.{Reading}
-use Rattle.calls.specs.declared.Asked.{Asked}
+use Rattle.calls.specs.declared.Extension.{Extension}
 use Rattle.calls.specs.declared.Refusal.the-variants.{NotAllowed, BadRequest, OldNumber, OtherLength, NoTrack, BadPlace}
 use Rattle.calls.specs.declared.Values.the-variants.{Ordered, Extended, Zeros}
 use Rattle.calls.specs.Checks.{firstOf}
@@ -34,7 +34,7 @@ module _ (σ : Settings) (x : Train) where
 
   -- ---- extend
 
-  module _ (limit : Limit) (q : Asked) where
+  module _ (limit : Limit) (q : Extension) where
     abbrev mine : Authority
     mine = x .authority
 
@@ -48,13 +48,13 @@ module _ (σ : Settings) (x : Train) where
       extend-old e = rw (ranged, e)
 
       module _ (fresh : isOld mine q ≡ false) where
-        pub extend-other : q .number ≡ mine .number → (q .length ≡ mine .asked → ⊥) → verdict (extending σ limit x q) ≡ TurnedDown OtherLength
+        pub extend-other : q .number ≡ mine .number → (q .length ≡ mine .length → ⊥) → verdict (extending σ limit x q) ≡ TurnedDown OtherLength
         unfolding firstOf isRepeat
-        extend-other e f = rw (ranged, fresh, eq-eqb (q .number) (mine .number) e, ne-eqb (q .length) (mine .asked) f)
+        extend-other e f = rw (ranged, fresh, eq-eqb (q .number) (mine .number) e, ne-eqb (q .length) (mine .length) f)
 
-        pub extend-repeat : q .number ≡ mine .number → q .length ≡ mine .asked → verdict (extending σ limit x q) ≡ Passed (Extended (mine .end) true) x
+        pub extend-repeat : q .number ≡ mine .number → q .length ≡ mine .length → verdict (extending σ limit x q) ≡ Passed (Extended (mine .end) true) x
         unfolding firstOf isRepeat extended
-        extend-repeat e f = rw (ranged, fresh, eq-eqb (q .number) (mine .number) e, eq-eqb (q .length) (mine .asked) f)
+        extend-repeat e f = rw (ranged, fresh, eq-eqb (q .number) (mine .number) e, eq-eqb (q .length) (mine .length) f)
 
         pub extend-beyond : (q .number ≡ mine .number → ⊥) → withinLimit limit (mine .end + q .length) ≡ false → verdict (extending σ limit x q) ≡ TurnedDown NoTrack
         unfolding firstOf isRepeat

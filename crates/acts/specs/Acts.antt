@@ -4,31 +4,32 @@ use mathlib.Core.Bool.{Bool, cond, _&&_, _||_}
 use lib.Dec.{leb, ltb, eqb}
 use Rattle.ranges.specs.Ranges.{between, numberInRange}
 use Rattle.motion.specs.Motion.{stands}
-use Rattle.calls.specs.declared.Asked.{Asked}
+use Rattle.motion.specs.Orders.{isBrake}
+use Rattle.calls.specs.declared.Extension.{Extension}
 use Rattle.train.specs.declared.Settings.{Settings}
 use Rattle.train.specs.declared.Authority.{Authority}
 use Rattle.train.specs.declared.Train.{Train}
-use Rattle.train.specs.Record.{authorityTo, endingAt, same, authorised, isBrake}
+use Rattle.train.specs.Record.{authorityTo, endingAt, same, authorised}
 use Rattle.train.specs.Report.{reachOf, computable}
 
 -- a request: its number, and its length from 1 to the line end
-unfoldable pub requestInRange : Settings → Asked → Bool
+unfoldable pub requestInRange : Settings → Extension → Bool
 requestInRange σ q = numberInRange (q .number) && between 1 (σ .end) (q .length)
 
 -- a request whose number is at or below the starting number, or below the last accepted
-unfoldable pub isOld : Authority → Asked → Bool
+unfoldable pub isOld : Authority → Extension → Bool
 isOld a q = leb (q .number) (a .start) || ltb (q .number) (a .number)
 
 -- the last accepted number again
-unfoldable pub isRepeat : Authority → Asked → Bool
+unfoldable pub isRepeat : Authority → Extension → Bool
 isRepeat a q = eqb (q .number) (a .number)
 
 -- Extend: a new number adds the length
-abbrev pub granted : Authority → Asked → Authority
+abbrev pub granted : Authority → Extension → Authority
 granted a q = authorityTo (a .end + q .length) (a .start) (q .number) (q .length)
 
 -- a repeat changes nothing
-unfoldable pub extended : Train → Asked → Train
+unfoldable pub extended : Train → Extension → Train
 extended x q = cond (isRepeat (x .authority) q) x (authorised x (granted (x .authority) q))
 
 -- Call back: the end becomes a named place from reach to end, both included. The request number stays.

@@ -5,7 +5,7 @@ use mathlib.Core.Option.{Option, none, some}
 use mathlib.Core.List.{List, [], _∷_}
 use lib.Dec.{eqb}
 use Rattle.calls.specs.declared.Reading.{Reading}
-use Rattle.calls.specs.declared.Asked.{Asked}
+use Rattle.calls.specs.declared.Extension.{Extension}
 use Rattle.calls.specs.declared.Act.{Act}
 use Rattle.calls.specs.declared.Act.the-variants.{Report, Extend, CallBack, Hold, Lift}
 use Rattle.calls.specs.declared.Refusal.{Refusal}
@@ -35,13 +35,13 @@ reporting σ x r =
     record { checks = check (not (reportAllowed σ x r)) NotAllowed ∷ []; gives = Ordered (y .order) (reachOf y); after = y }
 
 -- Extend: 10, 11, 12, repeat, 13
-abbrev pub extending : Settings → Limit → Train → Asked → Ruling
+abbrev pub extending : Settings → Limit → Train → Extension → Ruling
 extending σ limit x q =
     record {
       checks =
           check (not (requestInRange σ q)) BadRequest
           ∷ check (isOld (x .authority) q) OldNumber
-          ∷ check (isRepeat (x .authority) q && not (eqb (q .length) (x .authority .asked))) OtherLength
+          ∷ check (isRepeat (x .authority) q && not (eqb (q .length) (x .authority .length))) OtherLength
           ∷ check (not (isRepeat (x .authority) q) && not (withinLimit limit (x .authority .end + q .length))) NoTrack
           ∷ [];
       gives = Extended (extended x q .authority .end) (isRepeat (x .authority) q);

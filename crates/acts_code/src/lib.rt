@@ -7,7 +7,7 @@ ghost use Rattle.acts.specs.Acts.{requestInRange, isOld, granted, calledBack, c
 ghost use Rattle.acts.specs.Decide.{reporting, extending, callingBack, decide as decision, verdict};
 use acts::Verdict;
 use calls::Act;
-use calls::Asked;
+use calls::Extension;
 use calls::Reading;
 use calls::Refusal;
 use calls::Values;
@@ -19,7 +19,7 @@ use train::Train;
 // ---- extend
 
 // No request longer than the line can be granted, so its length is bounded by the line end.
-fn request_in_range(s: Settings, q: Asked) -> bool
+fn request_in_range(s: Settings, q: Extension) -> bool
     ensures { λ r. ⌜ r ≡ requestInRange s q ⌝ }
 {
     logic::both(
@@ -29,7 +29,7 @@ fn request_in_range(s: Settings, q: Asked) -> bool
 }
 
 // Refusal 11. The last accepted number itself is not old: it may be a repeat.
-fn is_old(a: Authority, q: Asked) -> bool
+fn is_old(a: Authority, q: Extension) -> bool
     ensures { λ r. ⌜ r ≡ isOld a q ⌝ }
 {
     if q.number <= a.start {
@@ -39,7 +39,7 @@ fn is_old(a: Authority, q: Asked) -> bool
 }
 
 // A new request is granted: its length is added, and its number is the last accepted one.
-fn grant(x: Train, q: Asked) -> Train
+fn grant(x: Train, q: Extension) -> Train
     requires { ⌜ x .authority .end + q .length < 2 ^ 64 ⌝ }
     ensures { λ r. ⌜ r ≡ authorised x (granted (x .authority) q) ⌝ }
 {
@@ -100,7 +100,7 @@ fn report(s: Settings, x: Train, r: Reading) -> Verdict
 }
 
 // Extend: a new number adds its length if the new end is within the limit, and the last accepted one again adds none.
-fn extend(s: Settings, limit: Limit, x: Train, q: Asked) -> Verdict
+fn extend(s: Settings, limit: Limit, x: Train, q: Extension) -> Verdict
     ensures { λ v. ⌜ v ≡ verdict (extending s limit x q) ⌝ }
 {
     let a = x.authority;
@@ -113,7 +113,7 @@ fn extend(s: Settings, limit: Limit, x: Train, q: Asked) -> Verdict
         return Verdict::TurnedDown(Refusal::OldNumber);
     }
     if q.number == a.number {
-        if length != a.asked {
+        if length != a.length {
             return Verdict::TurnedDown(Refusal::OtherLength);
         }
         return Verdict::Passed(Values::Extended(end, true), x);
@@ -159,5 +159,5 @@ pub fn may_leave(i: usize, x: Train) -> bool
     let m = x.motion;
     let o = x.order;
     let standing = logic::both(i == 0, motion_code::standing(k, m.speed, m.level));
-    logic::both(standing, train_code::is_brake(o))
+    logic::both(standing, motion_code::is_brake(o))
 }

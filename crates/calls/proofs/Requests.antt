@@ -19,7 +19,7 @@ use Rattle.calls.specs.declared.Ask.{Ask}
 use Rattle.calls.specs.declared.Ask.the-variants.{Open, OnTable}
 use Rattle.calls.specs.declared.RequestRead.{RequestRead}
 use Rattle.calls.specs.declared.RequestRead.the-variants.{Read, Unreadable}
-use Rattle.calls.specs.Requests.{at, allZero, zeroFrom, callerPlace, readAs, openingIn, entryIn, readingIn, askedIn, requestOf}
+use Rattle.calls.specs.Requests.{at, allZero, zeroFrom, callerPlace, readAs, openingIn, entryIn, readingIn, extensionIn, requestOf}
 
 -- ---- unused numbers
 
@@ -54,7 +54,7 @@ module _ (row : List ℕ) where
   unfolding requestOf
   code-report h = rw (h, requestOf) refl
 
-  pub code-extend : at row 0 ≡ 4 → requestOf row ≡ readAs 4 row (OnTable (Own (at row 1) (Extend (askedIn row))))
+  pub code-extend : at row 0 ≡ 4 → requestOf row ≡ readAs 4 row (OnTable (Own (at row 1) (Extend (extensionIn row))))
   unfolding requestOf
   code-extend h = rw (h, requestOf) refl
 

@@ -8,7 +8,7 @@ use lib.ListN.{getD, take, drop}
 use Rattle.calls.specs.declared.Opening.{Opening}
 use Rattle.calls.specs.declared.Entry.{Entry}
 use Rattle.calls.specs.declared.Reading.{Reading}
-use Rattle.calls.specs.declared.Asked.{Asked}
+use Rattle.calls.specs.declared.Extension.{Extension}
 use Rattle.calls.specs.declared.Act.the-variants.{Report, Extend, CallBack, Hold, Lift}
 use Rattle.calls.specs.declared.Call.the-variants.{Enter, Own, TakeOff}
 use Rattle.calls.specs.declared.Ask.{Ask}
@@ -29,7 +29,7 @@ abbrev pub zeroFrom : ℕ → List ℕ → Bool
 zeroFrom n row = allZero (drop n row)
 
 abbrev pub request : ℕ → Ask → Request
-request n a = record { caller = n; asks = a }
+request n a = record { caller = n; ask = a }
 
 -- the caller stands after the code and the five numbers of a call
 abbrev pub callerPlace : ℕ
@@ -52,8 +52,8 @@ abbrev pub readingIn : List ℕ → Reading
 readingIn row = record { head = at row 2; speed = at row 3 }
 
 -- after the id: number, length
-abbrev pub askedIn : List ℕ → Asked
-askedIn row = record { number = at row 2; length = at row 3 }
+abbrev pub extensionIn : List ℕ → Extension
+extensionIn row = record { number = at row 2; length = at row 3 }
 
 -- 1 open, 2 enter, 3 report, 4 extend, 5 call back (id, place), 6 hold, 7 lift, 8 take off (id); any other code is unreadable
 unfoldable pub requestOf : List ℕ → RequestRead
@@ -61,7 +61,7 @@ requestOf row =
     cond (eqb (at row 0) 1) (readAs 5 row (Open (openingIn row)))
     (cond (eqb (at row 0) 2) (readAs 6 row (OnTable (Enter (entryIn row))))
     (cond (eqb (at row 0) 3) (readAs 4 row (OnTable (Own (at row 1) (Report (readingIn row)))))
-    (cond (eqb (at row 0) 4) (readAs 4 row (OnTable (Own (at row 1) (Extend (askedIn row)))))
+    (cond (eqb (at row 0) 4) (readAs 4 row (OnTable (Own (at row 1) (Extend (extensionIn row)))))
     (cond (eqb (at row 0) 5) (readAs 3 row (OnTable (Own (at row 1) (CallBack (at row 2)))))
     (cond (eqb (at row 0) 6) (readAs 2 row (OnTable (Own (at row 1) Hold)))
     (cond (eqb (at row 0) 7) (readAs 2 row (OnTable (Own (at row 1) Lift)))

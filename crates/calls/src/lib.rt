@@ -28,7 +28,7 @@ pub struct Reading {
 }
 
 // Extend: request number, and the length of track that is asked for.
-pub struct Asked {
+pub struct Extension {
     pub number: u64,
     pub length: u64,
 }
@@ -36,7 +36,7 @@ pub struct Asked {
 // A call that names a train on the line and leaves it there. Call back names a place.
 pub enum Act {
     Report(Reading),
-    Extend(Asked),
+    Extend(Extension),
     CallBack(u64),
     Hold,
     Lift,
@@ -58,7 +58,7 @@ pub enum Ask {
 // A request, as a line makes it: the number of its caller, and what is asked.
 pub struct Request {
     pub caller: u64,
-    pub asks: Ask,
+    pub ask: Ask,
 }
 
 // A row of numbers, read: some rows ask nothing.

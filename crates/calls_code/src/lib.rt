@@ -6,9 +6,9 @@ ghost use Rattle.calls.specs.Requests.{zeroFrom, callerPlace, readAs, requestOf
 use calls::Act;
 use calls::Answer;
 use calls::Ask;
-use calls::Asked;
 use calls::Call;
 use calls::Entry;
+use calls::Extension;
 use calls::Numbers;
 use calls::Opening;
 use calls::ROW;
@@ -116,7 +116,7 @@ fn read_as(row: [u64; ROW], n: usize, a: Ask) -> RequestRead
     if zero_from(row, n) {
         return RequestRead::Read(Request {
             caller: row[CALLER],
-            asks: a,
+            ask: a,
         });
     }
     RequestRead::Unreadable
@@ -164,7 +164,7 @@ pub fn request_of(row: [u64; ROW]) -> RequestRead
             4,
             Ask::OnTable(Call::Own(
                 a,
-                Act::Extend(Asked {
+                Act::Extend(Extension {
                     number: b,
                     length: c,
                 }),

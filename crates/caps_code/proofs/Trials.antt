@@ -12,14 +12,14 @@ use Rattle.brake.specs.declared.Figures.{Figures}
 use Rattle.brake.specs.Consist.{Sound}
 use Rattle.ranges.specs.Ranges.{greatestTraction}
 use Rattle.motion.specs.declared.Motion.{Motion}
-use Rattle.motion.specs.declared.Limits.{Limits}
+use Rattle.motion.specs.declared.Maxima.{Maxima}
 use Rattle.motion.specs.declared.Order.the-variants.{Drive, Brake}
 use Rattle.motion.specs.Orders.{reach, capFits, keepsGoal, greatest, orderFor}
 use Rattle.motion.proofs.Greatest.{greatest-only, greatest-agree}
 use Rattle.motion.proofs.Orders.{reach-mono, fits-over, fits-under}
 use Rattle.caps_code.specs.Search.{CapsAllowed, guesses, Next}
 
-module _ (k : Figures) (l : Limits) (goal : ℕ) (m : Motion) where
+module _ (k : Figures) (l : Maxima) (goal : ℕ) (m : Motion) where
   -- no cap is allowed: brake
   pub none-allowed : CapsAllowed k l (m .speed) 0 → orderFor k l goal m ≡ Brake
   unfolding orderFor

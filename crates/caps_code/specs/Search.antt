@@ -5,7 +5,7 @@ use mathlib.Core.Path.{_≡_}
 use lib.ListN.{length, getD, take}
 use Rattle.brake.specs.declared.Figures.{Figures}
 use Rattle.motion.specs.declared.Motion.{Motion}
-use Rattle.motion.specs.declared.Limits.{Limits}
+use Rattle.motion.specs.declared.Maxima.{Maxima}
 use Rattle.motion.specs.declared.Order.the-variants.{Drive}
 use Rattle.motion.specs.Motion.{driveSpeed, brakedRun}
 use Rattle.motion.specs.Orders.{reach}
@@ -15,7 +15,7 @@ use Rattle.caps.specs.Levels.{levelEntry}
 -- ---- words of inner contracts
 
 -- of the caps from 0 to A, those below n and no others keep v + c at most V
-pub record CapsAllowed (k : Figures) (l : Limits) (v n : ℕ) : Type 0 where
+pub record CapsAllowed (k : Figures) (l : Maxima) (v n : ℕ) : Type 0 where
   pub within : n ≤ l .traction + 1
   pub keep : (c : ℕ) → c < n → driveSpeed k v c ≤ l .ceiling
   pub exceed : (c : ℕ) → n ≤ c → c ≤ l .traction → l .ceiling < driveSpeed k v c

@@ -10,7 +10,7 @@ ghost use Rattle.motion.specs.Bounds.{Braking, Driving, Bounded};
 ghost use Rattle.caps.specs.Levels.{levelEntry, stopRead};
 ghost use Rattle.caps_code.specs.Search.{CapsAllowed, longestList, Listed, ListedTo, Beyond, Kept, Apart, Next};
 use brake::Figures;
-use motion::Limits;
+use motion::Maxima;
 use motion::Motion;
 use motion::Order;
 use motion_code::Offer;
@@ -27,7 +27,7 @@ const SLOW: u64 = 1250000;
 const GUESSES: u64 = 8;
 
 // How many caps, counted from 0, the engine and the ceiling allow at speed v. Each is judged with its own gain.
-fn caps_allowed(k: Figures, l: Limits, v: u64) -> u64
+fn caps_allowed(k: Figures, l: Maxima, v: u64) -> u64
     requires { ⌜ Driving k v (l .traction) ⌝ }
     ensures { λ r. ⌜ CapsAllowed k l v r ⌝ }
 {
@@ -229,7 +229,7 @@ fn order_up_to(k: Figures, goal: u64, m: Motion, most: u64) -> Offer
 
 // The order that the goal allows, with its reach: drive with the greatest cap that fits, or brake where none does. Engine and ceiling say how
 // far the search goes.
-pub fn order_for(k: Figures, l: Limits, goal: u64, m: Motion) -> Offer
+pub fn order_for(k: Figures, l: Maxima, goal: u64, m: Motion) -> Offer
     requires { ⌜ Bounded k m (l .traction) ⌝ }
     ensures { λ r. ⌜ r ≡ offer k m (orderFor k l goal m) ⌝ }
 {

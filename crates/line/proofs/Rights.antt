@@ -52,9 +52,9 @@ unfolding decided
 open-16 n o lacks t = rw (no-right n (Open o) lacks)
 
 -- "A caller without the right learns the same, be the train on the line or not": on any two tables
-pub learns-the-same : (r : Request) → (Right (r .caller) (r .asks) → ⊥) → (opened : Bool) (t u : Table) → decided opened t r .answer ≡ decided opened u r .answer
+pub learns-the-same : (r : Request) → (Right (r .caller) (r .ask) → ⊥) → (opened : Bool) (t u : Table) → decided opened t r .answer ≡ decided opened u r .answer
 unfolding decided
-learns-the-same r lacks opened t u = by-test (outOfTurn opened (r .asks)) (λ e. rw e) (λ e. rw (e, no-right (r .caller) (r .asks) lacks))
+learns-the-same r lacks opened t u = by-test (outOfTurn opened (r .ask)) (λ e. rw e) (λ e. rw (e, no-right (r .caller) (r .ask) lacks))
 
 -- ---- with the right
 
@@ -96,28 +96,28 @@ act-16 t i (CallBack p) = refl
 act-16 t i Hold = refl
 act-16 t i Lift = refl
 
-asked-16 : (t : Table) (a : Ask) → numbersOf (decideOn t a .answer) .number ≡ 16 → ⊥
+ask-16 : (t : Table) (a : Ask) → numbersOf (decideOn t a .answer) .number ≡ 16 → ⊥
 unfolding decideOn openDecision enterDecision actDecision takeOffDecision
-asked-16 t (Open o) = judged-16 _ _ _ refl
-asked-16 t (OnTable (Enter e)) = go (figuresFor (t .settings) e)
+ask-16 t (Open o) = judged-16 _ _ _ refl
+ask-16 t (OnTable (Enter e)) = go (figuresFor (t .settings) e)
   where
     go : (f : FiguresFound) → numbersOf (enterDecision t e f .answer) .number ≡ 16 → ⊥
     go NoFigures = λ is. omega arith
     go (Given k) = judged-16 (enterChecks t e k) _ _ refl
-asked-16 t (OnTable (Own id a)) = go (placeOf t id)
+ask-16 t (OnTable (Own id a)) = go (placeOf t id)
   where
     go : (f : Option ℕ) → numbersOf (named f (actDecision t a) .answer) .number ≡ 16 → ⊥
     go none = λ is. omega arith
     go (some i) = judged-16 _ _ _ (act-16 t i a)
-asked-16 t (OnTable (TakeOff id)) = go (placeOf t id)
+ask-16 t (OnTable (TakeOff id)) = go (placeOf t id)
   where
     go : (f : Option ℕ) → numbersOf (named f (takeOffDecision t) .answer) .number ≡ 16 → ⊥
     go none = λ is. omega arith
     go (some i) = judged-16 _ _ _ refl
 
 -- a caller with the right is never answered 16
-pub never-16 : (opened : Bool) (t : Table) (r : Request) → Right (r .caller) (r .asks) → numbersOf (decided opened t r .answer) .number ≡ 16 → ⊥
+pub never-16 : (opened : Bool) (t : Table) (r : Request) → Right (r .caller) (r .ask) → numbersOf (decided opened t r .answer) .number ≡ 16 → ⊥
 unfolding decided
 never-16 opened t r has =
-    let may = right-exactly (r .caller) (r .asks) .1 has in
-    by-test (outOfTurn opened (r .asks)) (λ e. rw (may, e) (λ is. omega arith)) (λ e. rw (may, e) (asked-16 t (r .asks)))
+    let may = right-exactly (r .caller) (r .ask) .1 has in
+    by-test (outOfTurn opened (r .ask)) (λ e. rw (may, e) (λ is. omega arith)) (λ e. rw (may, e) (ask-16 t (r .ask)))

@@ -166,7 +166,7 @@ module _ (t : Table) (e : Entry) where
         pub enter-accepted : (k : Figures) → Described (e .load) (e .length) k → 6096000 * e .length ≤ e .head → InLimit (limitAt t (t .count)) (e .head)
             → let x =
             trainOf (e .id) (e .length) k (record { head = e .head; speed = 0; level = k .full }) Brake
-            (record { end = e .head; start = e .start; number = e .start; asked = 0 }) (record { held = false; penalty = false }) in
+            (record { end = e .head; start = e .start; number = e .start; length = 0 }) (record { held = false; penalty = false }) in
             step t (Enter e) ≡ outcome (Accepted (Entered (k .full) (k .growth) (e .head))) (changed t (Add x))
         unfolding stepsOf
         enter-accepted k d long near =

@@ -191,8 +191,8 @@ module _ (Q : Train → Type 0) (id : ℕ) (t : Table) (sized : Sized t) (h : Ho
       })
 
   -- after any request that keeps it
-  pub still-holds : (r : Request) → Keeps Q id (numbersOf (requested true t r .answer) .number) (r .asks) → Holds Q id (requested true t r .table)
+  pub still-holds : (r : Request) → Keeps Q id (numbersOf (requested true t r .answer) .number) (r .ask) → Holds Q id (requested true t r .table)
   unfolding step
   still-holds =
-      any-request t (λ r d. Keeps Q id (numbersOf (d .answer) .number) (r .asks) → Holds Q id (changed t (d .change))) (λ r why keeps. h)
+      any-request t (λ r d. Keeps Q id (numbersOf (d .answer) .number) (r .ask) → Holds Q id (changed t (d .change))) (λ r why keeps. h)
       (λ r c asks keeps. after-call c (subst (Keeps Q id (numbersOf (step t c .answer) .number)) asks keeps))

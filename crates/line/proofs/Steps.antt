@@ -128,11 +128,11 @@ call-fits t size =
 -- ---- any request on an opened line: refused, or what its call comes to
 
 pub any-request : (t : Table) (P : Request → Decision → Type 0) → ((r : Request) (why : Refusal) → P r (refused why))
-    → ((r : Request) (c : Call) → r .asks ≡ OnTable c → P r (decideOn t (OnTable c))) → (r : Request) → P r (decided true t r)
+    → ((r : Request) (c : Call) → r .ask ≡ OnTable c → P r (decideOn t (OnTable c))) → (r : Request) → P r (decided true t r)
 unfolding decided
-any-request t P refuses does r = go (r .asks) refl
+any-request t P refuses does r = go (r .ask) refl
   where
-    go : (a : Ask) → r .asks ≡ a → P r (decided true t (request (r .caller) a))
+    go : (a : Ask) → r .ask ≡ a → P r (decided true t (request (r .caller) a))
     go (Open o) e = refuses r OutOfTurn
     go (OnTable c) e = by-test (mayAsk (r .caller) (OnTable c)) (λ may. rw may (does r c e)) (λ lacks. rw lacks (refuses r NoRight))
 
@@ -152,8 +152,8 @@ open-fits t o = by-test (settingsInRange o) (λ e. rw (open-taken o e) tt) (λ e
 pub decided-fits : (opened : Bool) (t : Table) → length (t .trains) ≡ places → (r : Request) → Fits t (decided opened t r .change)
 unfolding decideOn decided
 decided-fits opened t size r =
-    by-test (outOfTurn opened (r .asks)) (λ e. rw e tt)
-    (λ e. by-test (mayAsk (r .caller) (r .asks)) (λ may. rw (e, may) (fits (r .asks))) (λ lacks. rw (e, lacks) tt))
+    by-test (outOfTurn opened (r .ask)) (λ e. rw e tt)
+    (λ e. by-test (mayAsk (r .caller) (r .ask)) (λ may. rw (e, may) (fits (r .ask))) (λ lacks. rw (e, lacks) tt))
   where
     fits : (a : Ask) → Fits t (decideOn t a .change)
     fits (Open o) = open-fits t o

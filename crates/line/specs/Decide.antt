@@ -96,5 +96,5 @@ outOfTurn opened (OnTable c) = not opened
 -- a request, before an accepted opening or after one: 2, 16 caller without the right, then what is asked
 unfoldable pub decided : Bool → Table → Request → Decision
 decided opened t r =
-    cond (outOfTurn opened (r .asks)) (refused OutOfTurn)
-    (cond (mayAsk (r .caller) (r .asks)) (decideOn t (r .asks)) (refused NoRight))
+    cond (outOfTurn opened (r .ask)) (refused OutOfTurn)
+    (cond (mayAsk (r .caller) (r .ask)) (decideOn t (r .ask)) (refused NoRight))

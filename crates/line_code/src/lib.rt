@@ -6,9 +6,9 @@ ghost use Rattle.calls.specs.Requests.{request};
 ghost use Rattle.line.specs.Step.{noTable, requested};
 use calls::Act;
 use calls::Ask;
-use calls::Asked;
 use calls::Call;
 use calls::Entry;
+use calls::Extension;
 use calls::Opening;
 use calls::Reading;
 use calls::Request;
@@ -31,20 +31,16 @@ pub fn apply(opened: bool, t: Table, r: Request) -> Outcome
 pub fn open(caller: u64, o: Opening) -> Outcome
     ensures { λ r. ⌜ r ≡ requested false noTable (request caller (Ask.Open o)) ⌝ }
 {
-    let asks = Ask::Open(o);
-    apply(
-        false,
-        line_decide_code::no_table(),
-        Request { caller, asks },
-    )
+    let ask = Ask::Open(o);
+    apply(false, line_decide_code::no_table(), Request { caller, ask })
 }
 
 // Any call but open.
 fn call(t: Table, caller: u64, c: Call) -> Outcome
     ensures { λ r. ⌜ r ≡ requested true t (request caller (Ask.OnTable c)) ⌝ }
 {
-    let asks = Ask::OnTable(c);
-    apply(true, t, Request { caller, asks })
+    let ask = Ask::OnTable(c);
+    apply(true, t, Request { caller, ask })
 }
 
 pub fn enter(t: Table, caller: u64, e: Entry) -> Outcome
@@ -59,7 +55,7 @@ pub fn report(t: Table, caller: u64, id: u64, r: Reading) -> Outcome
     call(t, caller, Call::Own(id, Act::Report(r)))
 }
 
-pub fn extend(t: Table, caller: u64, id: u64, q: Asked) -> Outcome
+pub fn extend(t: Table, caller: u64, id: u64, q: Extension) -> Outcome
     ensures { λ r. ⌜ r ≡ requested true t (request caller (Ask.OnTable (Call.Own id (Act.Extend q)))) ⌝ }
 {
     call(t, caller, Call::Own(id, Act::Extend(q)))

@@ -156,15 +156,15 @@ pub fn decide(opened: bool, t: Table, r: Request) -> Decision
     ensures { λ d. ⌜ d ≡ decided opened t r ⌝ }
 {
     let caller = r.caller;
-    let asks = r.asks;
-    if out_of_turn(opened, asks) {
+    let ask = r.ask;
+    if out_of_turn(opened, ask) {
         return refuse(Refusal::OutOfTurn);
     }
     // Before every look at the table: who has no right learns nothing of it.
-    if !rights::may_ask(caller, asks) {
+    if !rights::may_ask(caller, ask) {
         return refuse(Refusal::NoRight);
     }
-    decide_ask(t, asks)
+    decide_ask(t, ask)
 }
 
 // Zeros in place of a table, where no opening has made one.

@@ -14,7 +14,7 @@ use Rattle.brake.specs.Consist.{Sound}
 use Rattle.logic.proofs.Tests.{by-test, both, not-both}
 use Rattle.logic.proofs.Rounding.{RoundedUp, rounded-once}
 use Rattle.motion.specs.declared.Motion.{Motion}
-use Rattle.motion.specs.declared.Limits.{Limits}
+use Rattle.motion.specs.declared.Maxima.{Maxima}
 use Rattle.motion.specs.declared.Order.the-variants.{Drive, Brake}
 use Rattle.motion.specs.Motion.{brakeTravel, brakeSpeed, nextLevel, driveTravel, driveSpeed, stands, stoppingDistance}
 use Rattle.motion.specs.Orders.{stoppingPlace, reach, capFits, orderFor}
@@ -51,7 +51,7 @@ reach-braked k m = refl
 
 -- ---- orders
 
-module _ (k : Figures) (l : Limits) (goal : ℕ) (m : Motion) where
+module _ (k : Figures) (l : Maxima) (goal : ℕ) (m : Motion) where
   -- cap c fits: "v + c is at most V and the reach is at most the end of authority"
   pub record Fits (c : ℕ) : Type 0 where
     pub ceiling : m .speed + c ≤ l .ceiling

@@ -3,15 +3,17 @@
 -- travel and orders are in OrderSentences.
 -- Assumes nothing.
 use Prim.Native.Nat.{ℕ, _+_, _*_, _≤_, _<_}
+use mathlib.Core.Bool.{true}
 use mathlib.Core.Path.{_≡_, refl}
 use native.Mathlib.Omega.{arith}
 use borrow.Author.Tests.{le-leb, lt-leb}
 use Rattle.brake.specs.declared.Figures.{Figures}
 use Rattle.logic.proofs.Rounding.{RoundedUp, rounded-up}
 use Rattle.motion.specs.declared.Motion.{Motion}
+use Rattle.motion.specs.declared.Order.{Order}
 use Rattle.motion.specs.declared.Order.the-variants.{Drive, Brake}
 use Rattle.motion.specs.Motion.{brakeTravel, brakeSpeed, nextLevel, driveTravel, driveSpeed}
-use Rattle.motion.specs.Orders.{worstCase}
+use Rattle.motion.specs.Orders.{isBrake, worstCase}
 
 -- "In a braked cycle at speed v and level b: if v is at least b, the train travels 2×v − b and ends at v − b"
 pub braked-on : (k : Figures) (v b : ℕ) → b ≤ v → (brakeTravel k v b + b ≡ v + v) × (brakeSpeed k v b + b ≡ v)
@@ -50,3 +52,8 @@ pub record Braked (k : Figures) (before after : Motion) : Type 0 where
 
 pub braked : (k : Figures) (m : Motion) → Braked k m (worstCase k m Brake)
 braked k m = record { travel = refl; speed = refl; level = refl }
+
+-- "drive with its cap or brake, as one value of two cases"
+pub brake-tested : (o : Order) → isBrake o ≡ true → o ≡ Brake
+brake-tested (Drive c) e = let z : _≡_ {A = ℕ} 0 1 = cc in absurd (omega arith)
+brake-tested Brake e = refl

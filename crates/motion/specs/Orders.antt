@@ -1,11 +1,11 @@
 -- Document 01, "Orders": what an order o allows a train with figures k and motion m, and which order it gets on a line with
--- limits l.
+-- maxima l.
 use Prim.Native.Nat.{ℕ, zero, suc, _+_}
 use mathlib.Core.Bool.{Bool, true, false, _&&_}
 use lib.Dec.{leb}
 use Rattle.brake.specs.declared.Figures.{Figures}
 use Rattle.motion.specs.declared.Motion.{Motion}
-use Rattle.motion.specs.declared.Limits.{Limits}
+use Rattle.motion.specs.declared.Maxima.{Maxima}
 use Rattle.motion.specs.declared.Order.{Order}
 use Rattle.motion.specs.declared.Order.the-variants.{Drive, Brake}
 use Rattle.motion.specs.Motion.{driveTravel, driveSpeed, releasedLevel, brakeTravel, brakeSpeed, nextLevel, stoppingDistance}
@@ -18,6 +18,11 @@ orderNumber Brake = 2
 abbrev pub orderCap : Order → ℕ
 orderCap (Drive c) = c
 orderCap Brake = 0
+
+-- whether an order is brake
+abbrev pub isBrake : Order → Bool
+isBrake (Drive c) = false
+isBrake Brake = true
 
 -- worst case of an order: head, speed and level at the end of the coming cycle
 abbrev pub worstCase : Figures → Motion → Order → Motion
@@ -39,7 +44,7 @@ abbrev pub keepsGoal : Figures → ℕ → Motion → ℕ → Bool
 keepsGoal k goal m c = leb (reach k m (Drive c)) goal
 
 -- cap c may be given: v + c is at most V, and the reach is at most the goal
-unfoldable pub capFits : Figures → Limits → ℕ → Motion → ℕ → Bool
+unfoldable pub capFits : Figures → Maxima → ℕ → Motion → ℕ → Bool
 capFits k l goal m c = leb (driveSpeed k (m .speed) c) (l .ceiling) && keepsGoal k goal m c
 
 -- drive with the greatest cap from 0 to n that passes a test, looked for from n downwards; no such cap: brake
@@ -48,5 +53,5 @@ greatest passes zero = elim (passes 0) [ true ↦ Drive 0 | false ↦ Brake ]
 greatest passes (suc n) = elim (passes (suc n)) [ true ↦ Drive (suc n) | false ↦ greatest passes n ]
 
 -- the order that the goal allows
-unfoldable pub orderFor : Figures → Limits → ℕ → Motion → Order
+unfoldable pub orderFor : Figures → Maxima → ℕ → Motion → Order
 orderFor k l goal m = greatest (capFits k l goal m) (l .traction)

@@ -10,7 +10,7 @@ use Rattle.brake.specs.declared.FiguresFound.{FiguresFound}
 use Rattle.brake.specs.declared.FiguresFound.the-variants.{Given, NoFigures}
 use Rattle.brake.specs.Consist.{applicationCycles, sheetEntry, entryFor, brakeCycles, figuresOf}
 use Rattle.motion.specs.declared.Motion.{Motion}
-use Rattle.motion.specs.declared.Limits.{Limits}
+use Rattle.motion.specs.declared.Maxima.{Maxima}
 use Rattle.motion.specs.declared.Order.{Order}
 use Rattle.motion.specs.declared.Order.the-variants.{Drive, Brake}
 use Rattle.motion.specs.Motion.{stoppingDistance}
@@ -50,8 +50,8 @@ loaded = record { full = 133303; growth = 264 }
 abbrev pub bySheet : Figures
 bySheet = record { full = 133303; growth = 263 }
 
-abbrev pub limits : Limits
-limits = record { ceiling = 26822400; traction = 3726 }
+abbrev pub maxima : Maxima
+maxima = record { ceiling = 26822400; traction = 3726 }
 
 abbrev pub entered : Motion
 entered = record { head = 14295120000; speed = 0; level = 133303 }
@@ -69,8 +69,8 @@ starredValues =
     ∷ row (stoppingDistance loaded 100 0) 238
     ∷ row (stoppingDistance loaded 264 0) 792
     ∷ row (stoppingDistance loaded 265 0) 797
-    ∷ row (orderNumber (orderFor bySheet limits (entered .head + 20000) entered)) 1
-    ∷ row (orderCap (orderFor bySheet limits (entered .head + 20000) entered)) 2534
+    ∷ row (orderNumber (orderFor bySheet maxima (entered .head + 20000) entered)) 1
+    ∷ row (orderCap (orderFor bySheet maxima (entered .head + 20000) entered)) 2534
     ∷ row (isGiven (figuresOf 1 0)) 0
     ∷ row (isGiven (figuresOf 1 10001)) 0
     ∷ row (isGiven (figuresOf 0 2345)) 0

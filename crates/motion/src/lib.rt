@@ -15,7 +15,7 @@ pub struct Motion {
 }
 
 // Speed ceiling V and greatest traction A.
-pub struct Limits {
+pub struct Maxima {
     pub ceiling: u64,
     pub traction: u64,
 }

@@ -16,10 +16,10 @@ pub record Summed (k : Figures) (v b speeds speed level : ℕ) : Type 0 where
   pub start : Braking k v b
   pub here : Braking k speed level
   pub left : 2 * speeds + speed + stoppingDistance k speed level ≡ v + stoppingDistance k v b
-  pub some : v ≤ 2 * speeds + speed
+  pub covers : v ≤ 2 * speeds + speed
 
 pub summed-none : {k : Figures} {v b : ℕ} → Braking k v b → Summed k v b 0 v b
-summed-none h = record { start = h; here = h; left = omega arith; some = omega arith }
+summed-none h = record { start = h; here = h; left = omega arith; covers = omega arith }
 
 module _ {k : Figures} {v b speeds speed level : ℕ} (s : Summed k v b speeds speed level) where
   -- one cycle more, which is not the last
@@ -29,8 +29,8 @@ module _ {k : Figures} {v b speeds speed level : ℕ} (s : Summed k v b speeds s
       let travel = travel-speeds k speed level e in
       let cycle = stop-cycle k speed level (s .here .figures) in
       let left = s .left in
-      let some = s .some in
-      record { start = s .start; here = braking-on k speed level (s .here); left = omega arith; some = omega arith }
+      let covers = s .covers in
+      record { start = s .start; here = braking-on k speed level (s .here); left = omega arith; covers = omega arith }
 
   summed-fits : 2 * speeds + speed ≤ v + longestStop
   summed-fits =
@@ -40,7 +40,7 @@ module _ {k : Figures} {v b speeds speed level : ℕ} (s : Summed k v b speeds s
 
   -- what `motion_code::travelled` takes for granted
   pub summed-gone : (v ≤ 2 * speeds + speed) × (2 * speeds + speed < 2 ^ 64)
-  summed-gone = let fits = summed-fits in (s .some, omega (arith, s .start .speed))
+  summed-gone = let fits = summed-fits in (s .covers, omega (arith, s .start .speed))
 
   -- with what is left to go, all is summed up
   pub summed-rest : (gone : ℕ) → gone + v ≡ 2 * speeds + speed → gone + stoppingDistance k speed level ≡ stoppingDistance k v b

@@ -3,7 +3,7 @@
 ghost use mathlib.Core.Path.{_≡_};
 ghost use Prim.Native.Nat.{_+_, _*_, _^_, _≤_, _<_};
 ghost use Rattle.motion.specs.Motion.{brakeTravel, brakeSpeed, nextLevel, driveTravel, driveSpeed, stands, stoppingDistance};
-ghost use Rattle.motion.specs.Orders.{orderNumber, orderCap, worstCase, reach};
+ghost use Rattle.motion.specs.Orders.{orderNumber, orderCap, isBrake, worstCase, reach};
 ghost use Rattle.motion_code.specs.Offers.{offer};
 ghost use Rattle.motion.specs.Bounds.{Level, Braking, Driving, Bounded, inBounds};
 use brake::Figures;
@@ -39,6 +39,16 @@ pub fn order_cap(o: Order) -> u64
     match o {
         Order::Drive(c) => c,
         Order::Brake => 0,
+    }
+}
+
+// Whether an order is brake.
+pub fn is_brake(o: Order) -> bool
+    ensures { λ r. ⌜ r ≡ isBrake o ⌝ }
+{
+    match o {
+        Order::Drive(_) => false,
+        Order::Brake => true,
     }
 }
 

@@ -14,7 +14,7 @@ use Rattle.ranges.proofs.Sentences.{train-id}
 use Rattle.calls.specs.declared.Opening.{Opening}
 use Rattle.calls.specs.declared.Entry.{Entry}
 use Rattle.calls.specs.declared.Reading.{Reading}
-use Rattle.calls.specs.declared.Asked.{Asked}
+use Rattle.calls.specs.declared.Extension.{Extension}
 use Rattle.calls.specs.declared.Act.the-variants.{Report, Extend, CallBack, Hold, Lift}
 use Rattle.calls.specs.declared.Call.the-variants.{Enter, Own, TakeOff}
 use Rattle.calls.specs.declared.Ask.{Ask}
@@ -25,7 +25,7 @@ use Rattle.rights.specs.Rights.{isTrain, mayAsk}
 pub data Right : ℕ → Ask → Type 0 where
   -- "1 to 65535 the train of that id": "A train may report and extend for itself only"
   reports : {id : ℕ} {r : Reading} → 1 ≤ id → id ≤ 65535 → Right id (OnTable (Own id (Report r)))
-  extends : {id : ℕ} {q : Asked} → 1 ≤ id → id ≤ 65535 → Right id (OnTable (Own id (Extend q)))
+  extends : {id : ℕ} {q : Extension} → 1 ≤ id → id ≤ 65535 → Right id (OnTable (Own id (Extend q)))
   -- "0 dispatcher": "the dispatcher opens, calls back, holds and lifts"
   opens : {o : Opening} → Right 0 (Open o)
   calls-back : {id place : ℕ} → Right 0 (OnTable (Own id (CallBack place)))

@@ -17,11 +17,11 @@ use Rattle.motion.specs.declared.Motion.{Motion}
 use Rattle.motion.specs.declared.Order.{Order}
 use Rattle.motion.specs.declared.Order.the-variants.{Drive, Brake}
 use Rattle.motion.specs.Motion.{stands}
-use Rattle.motion.specs.Orders.{orderCap, worstCase}
+use Rattle.motion.specs.Orders.{orderCap, isBrake, worstCase}
 use Rattle.motion.proofs.Domination.{NoWorse}
 use Rattle.motion.proofs.Slowing.{Slowed, slowed-start, slowed-brake}
 use Rattle.calls.specs.declared.Reading.{Reading}
-use Rattle.calls.specs.declared.Asked.{Asked}
+use Rattle.calls.specs.declared.Extension.{Extension}
 use Rattle.calls.specs.declared.Act.{Act}
 use Rattle.calls.specs.declared.Act.the-variants.{Report, Extend, CallBack, Hold, Lift}
 use Rattle.calls.specs.declared.Answer.the-variants.{Accepted}
@@ -35,7 +35,7 @@ use Rattle.train.specs.declared.Authority.{Authority}
 use Rattle.train.specs.declared.Train.{Train}
 use Rattle.train.specs.declared.Limit.{Limit}
 use Rattle.train.specs.Track.{withinLimit}
-use Rattle.train.specs.Record.{endingAt, isBrake}
+use Rattle.train.specs.Record.{endingAt}
 use Rattle.train.specs.Report.{reachOf, allowed, motionAfter, moves, orderAfter, isPenalty, reported}
 use Rattle.acts.specs.Acts.{isRepeat, granted, extended}
 use Rattle.acts.specs.Decide.{Ruling, decide}
@@ -53,7 +53,7 @@ use Rattle.safety.proofs.Train.{Guarded, guarded-report, guarded-still}
 abbrev pub Slowing : Settings → Train → Option ℕ → Type 0
 Slowing σ x none = Unit {0}
 Slowing σ x (some zero) = Unit {0}
-Slowing σ x (some (suc n)) = (x .order ≡ Brake) × Slowed (x .figures) (σ .limits .ceiling) n (x .motion)
+Slowing σ x (some (suc n)) = (x .order ≡ Brake) × Slowed (x .figures) (σ .maxima .ceiling) n (x .motion)
 
 pub record Steady (σ : Settings) (limit : Limit) (x : Told) : Type 0 where
   pub consist : figuresOf (x .entry .load) (x .entry .length) ≡ Given (x .figures)
@@ -82,7 +82,7 @@ still-held (some n) = refl
 -- what an act gives, of a train with this limit
 abbrev pub Within : Settings → Limit → Values → Type 0
 Within σ limit (Entered full growth e) = ⊥
-Within σ limit (Ordered o r) = (orderCap o ≤ σ .limits .traction) × InLimit limit r
+Within σ limit (Ordered o r) = (orderCap o ≤ σ .maxima .traction) × InLimit limit r
 Within σ limit (Extended e repeat) = InLimit limit e
 Within σ limit Zeros = Unit {0}
 
@@ -113,11 +113,11 @@ module _ (σ : Settings) (limit : Limit) (x : Told) (steady : Steady σ limit x)
     slowing-brake : (n : ℕ) → Slowing σ (recordOf x) (some n) → given ≡ Brake → Slowing σ (reported σ (recordOf x) r) (some (suc n))
     unfolding reported recordOf
     slowing-brake zero slow brakes =
-        (brakes, slowed-start (x .figures) (σ .limits .ceiling) m (guarded-report σ limit (recordOf x) (steady .guarded) r e .within .speed))
+        (brakes, slowed-start (x .figures) (σ .maxima .ceiling) m (guarded-report σ limit (recordOf x) (steady .guarded) r e .within .speed))
     slowing-brake (suc n) (brake, slowed) brakes =
         let k = x .figures in
         let braked = subst (λ (o : Order). NoWorse m (worstCase k (recordOf x .motion) o)) brake (allowed-no-worse (recordOf x) r e) in
-        (brakes, slowed-brake k (σ .limits .ceiling) n (recordOf x .motion) m (steady .guarded .figures) slowed braked)
+        (brakes, slowed-brake k (σ .maxima .ceiling) n (recordOf x .motion) m (steady .guarded .figures) slowed braked)
 
     held-report : (c : Option ℕ) → x .now .counts .held ≡ c → Slowing σ (reported σ (recordOf x) r) (Option·map suc c)
     unfolding recordOf
@@ -179,7 +179,7 @@ module _ (σ : Settings) (limit : Limit) (x : Told) (steady : Steady σ limit x)
   slowing-hold (some n) slow = slow
 
   -- b says whether an extension is a repeat
-  extended-end : (q : Asked) (b : Bool) → not b && not (withinLimit limit (x .now .authority .end + q .length)) ≡ false
+  extended-end : (q : Extension) (b : Bool) → not b && not (withinLimit limit (x .now .authority .end + q .length)) ≡ false
       → let a = cond b (x .now .authority) (granted (x .now .authority) q) in InLimit limit (a .end) × (x .now .authority .end ≤ a .end)
   unfolding recordOf
   extended-end q true e = (steady .guarded .end-in-limit, le-refl _)

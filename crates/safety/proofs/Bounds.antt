@@ -47,8 +47,8 @@ use Rattle.safety.proofs.Calls.{agrees}
 
 pub record InRange (σ : Settings) : Type 0 where
   pub end : σ .end ≤ greatestLineEnd
-  pub ceiling : σ .limits .ceiling ≤ greatestCeiling
-  pub traction : σ .limits .traction ≤ greatestTraction
+  pub ceiling : σ .maxima .ceiling ≤ greatestCeiling
+  pub traction : σ .maxima .traction ≤ greatestTraction
 
 ranges : (o : Opening) (σ : Settings) → WorksWith o σ → settingsInRange o ≡ true → InRange σ
 ranges o σ works e =
@@ -67,19 +67,19 @@ module _ (σ : Settings) (ρ : InRange σ) (limit : Limit) (x : Train) (t : OnTr
       let g = t .guarded in
       let head = guarded-head σ limit x g in
       bounds-hold (x .figures) (x .motion) (orderCap (x .order))
-      (within-bounded (x .figures) (σ .limits) (x .motion) (x .order) (g .figures) (ρ .ceiling) (ρ .traction) (omega arith) (g .within))
+      (within-bounded (x .figures) (σ .maxima) (x .motion) (x .order) (g .figures) (ρ .ceiling) (ρ .traction) (omega arith) (g .within))
 
   -- whatever an allowed report gives is within the bounds too
-  track-after : (r : Reading) → allowed x r ≡ true → inBounds (x .figures) (motionAfter x r) (σ .limits .traction) ≡ true
+  track-after : (r : Reading) → allowed x r ≡ true → inBounds (x .figures) (motionAfter x r) (σ .maxima .traction) ≡ true
   track-after r e =
       let g = t .guarded in
       let m = motionAfter x r in
       let better = allowed-no-worse x r e in
       let worst = worst-reach (x .figures) (x .motion) (x .order) (g .figures) in
       let reach = g .reach-in-end in
-      let within = within-report (x .figures) (σ .limits) (x .motion) (x .order) m Brake 0 (g .within) better (inl refl) in
-      let bounded = within-bounded (x .figures) (σ .limits) m Brake (g .figures) (ρ .ceiling) (ρ .traction) (omega arith) within in
-      bounds-cap (x .figures) m (σ .limits .traction) bounded ∙ le-leb _ _ (ρ .traction)
+      let within = within-report (x .figures) (σ .maxima) (x .motion) (x .order) m Brake 0 (g .within) better (inl refl) in
+      let bounded = within-bounded (x .figures) (σ .maxima) m Brake (g .figures) (ρ .ceiling) (ρ .traction) (omega arith) within in
+      bounds-cap (x .figures) m (σ .maxima .traction) bounded ∙ le-leb _ _ (ρ .traction)
 
   track-report : (r : Reading) → reportAllowed σ x r ≡ allowed x r
   unfolding reportAllowed

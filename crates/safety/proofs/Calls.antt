@@ -56,7 +56,7 @@ module _ (l : Line) (r : Request) where
   unfolding toldBy isAccepted
   told-refused why = rw (refusal-not-0 why)
 
-  told-accepted : (c : Call) (v : Values) → r .asks ≡ OnTable c → toldBy l (event r (Accepted v)) ≡ toldCall l (numbersOf (Accepted v)) (OnTable c)
+  told-accepted : (c : Call) (v : Values) → r .ask ≡ OnTable c → toldBy l (event r (Accepted v)) ≡ toldCall l (numbersOf (Accepted v)) (OnTable c)
   unfolding toldBy isAccepted
   told-accepted c v asks = rw (eq-eqb _ 0 (accepted-0 v), asks)
 
@@ -79,7 +79,7 @@ module _ (o : Opening) (l : Line) (t : Table) (A : Agrees o l t) where
 
   -- after one that asks for the call c
   abbrev Does : Call → Decision → Type 0
-  Does c d = (r : Request) → r .asks ≡ OnTable c → Next r d
+  Does c d = (r : Request) → r .ask ≡ OnTable c → Next r d
 
   -- ---- an act
 

@@ -22,7 +22,7 @@ use Rattle.motion.specs.Orders.{reach}
 use Rattle.motion.proofs.OrderSentences.{GreatestCap, standing-at-end}
 use Rattle.calls.specs.declared.Opening.{Opening}
 use Rattle.calls.specs.declared.Reading.{Reading}
-use Rattle.calls.specs.declared.Asked.{Asked}
+use Rattle.calls.specs.declared.Extension.{Extension}
 use Rattle.calls.specs.declared.Act.the-variants.{Report, Extend, CallBack, Hold, Lift}
 use Rattle.calls.specs.declared.Call.the-variants.{Own}
 use Rattle.calls.specs.declared.Refusal.the-variants.{NotAllowed, BadRequest, OldNumber, OtherLength, NoTrack, BadPlace}
@@ -36,7 +36,7 @@ use Rattle.train.proofs.Track.{InLimit}
 use Rattle.train.specs.Ranges.{WorksWith}
 use Rattle.train.proofs.Records.{free-order}
 use Rattle.train.proofs.Sentences.{report-exactly, penalty-order, held-order, as-usual, free-drives, free-brakes, mark-exactly}
-use Rattle.acts.proofs.Sentences.{report-9, report-answered, Asks, extension-10, extension-11, extension-12, extension-repeated, extension-13, extension-taken, call-back-moves, call-back-14, hold-marks, lift-unmarks}
+use Rattle.acts.proofs.Sentences.{report-9, report-answered, WellFormed, extension-10, extension-11, extension-12, extension-repeated, extension-13, extension-taken, call-back-moves, call-back-14, hold-marks, lift-unmarks}
 use Rattle.table.specs.declared.Table.{Table}
 use Rattle.table.specs.declared.Change.the-variants.{Put}
 use Rattle.table.specs.Table.{placeOf, trainAt, limitAt, changed}
@@ -120,7 +120,7 @@ module _ (o : Opening) (t : Table) (opened : openStep o ≡ outcome (Accepted Ze
       Unmarked = (x .marks .penalty ≡ false) ⊎ (r .speed ≡ 0)
 
       pub traction-offered : x .marks .held ≡ false → Unmarked → (c : ℕ)
-          → (given ≡ Drive c) ↔ GreatestCap (x .figures) (now .settings .limits) (x .authority .end) m c
+          → (given ≡ Drive c) ↔ GreatestCap (x .figures) (now .settings .maxima) (x .authority .end) m c
       traction-offered free unmarked c = free-drives (now .settings) x m free unmarked c
 
       -- "a marked train gets brake", as long as it moves
@@ -141,7 +141,7 @@ module _ (o : Opening) (t : Table) (opened : openStep o ≡ outcome (Accepted Ze
 
       -- "At a report, brake is ordered exactly when the train is held or no traction, not even zero, would do"; or when it is marked and moves
       abbrev NoneWouldDo : Type 0
-      NoneWouldDo = (now .settings .limits .ceiling < r .speed) ⊎ (x .authority .end < r .head + 2 * r .speed + stoppingDistance (x .figures) (r .speed) 0)
+      NoneWouldDo = (now .settings .maxima .ceiling < r .speed) ⊎ (x .authority .end < r .head + 2 * r .speed + stoppingDistance (x .figures) (r .speed) 0)
 
       pub brake-ordered : (given ≡ Brake) ↔ ((x .marks .held ≡ true) ⊎ (Marked ⊎ NoneWouldDo))
       brake-ordered = (only, exactly)
@@ -168,27 +168,27 @@ module _ (o : Opening) (t : Table) (opened : openStep o ≡ outcome (Accepted Ze
       pub standing-drives : x .marks .held ≡ false → r .speed ≡ 0 → x .authority .end ≡ r .head → given ≡ Drive 0
       standing-drives free standing here =
           free-order (now .settings) x m (as-usual (now .settings) x m free (inr standing))
-          ∙ standing-at-end (x .figures) (now .settings .limits) (x .authority .end) m standing here
+          ∙ standing-at-end (x .figures) (now .settings .maxima) (x .authority .end) m standing here
 
     -- ---- "authority"
 
-    module _ (q : Asked) where
+    module _ (q : Extension) where
       -- 10
-      pub extend-10 : (Asks (now .settings) q → ⊥) → step now (Own id (Extend q)) ≡ outcome (Refused BadRequest) now
+      pub extend-10 : (WellFormed (now .settings) q → ⊥) → step now (Own id (Extend q)) ≡ outcome (Refused BadRequest) now
       extend-10 out = own-step now id i found (Extend q) _ (extension-10 (now .settings) (limitAt now i) x q out)
 
-      module _ (a : Asks (now .settings) q) where
+      module _ (a : WellFormed (now .settings) q) where
         -- 11
         pub extend-11 : (q .number ≤ x .authority .start) ⊎ (q .number < x .authority .number) → step now (Own id (Extend q)) ≡ outcome (Refused OldNumber) now
         extend-11 old = own-step now id i found (Extend q) _ (extension-11 (now .settings) (limitAt now i) x q a old)
 
         module _ (above : x .authority .start < q .number) where
           -- 12
-          pub extend-12 : q .number ≡ x .authority .number → (q .length ≡ x .authority .asked → ⊥) → step now (Own id (Extend q)) ≡ outcome (Refused OtherLength) now
+          pub extend-12 : q .number ≡ x .authority .number → (q .length ≡ x .authority .length → ⊥) → step now (Own id (Extend q)) ≡ outcome (Refused OtherLength) now
           extend-12 last other = own-step now id i found (Extend q) _ (extension-12 (now .settings) (limitAt now i) x q a above last other)
 
           -- the repeat; of one accepted longer ago, and after which calls, is said in Repeats
-          pub extend-again : q .number ≡ x .authority .number → q .length ≡ x .authority .asked
+          pub extend-again : q .number ≡ x .authority .number → q .length ≡ x .authority .length
               → step now (Own id (Extend q)) ≡ outcome (Accepted (Extended (x .authority .end) true)) now
           extend-again last length =
               own-step now id i found (Extend q) _ (extension-repeated (now .settings) (limitAt now i) x q a above last length)
@@ -200,7 +200,7 @@ module _ (o : Opening) (t : Table) (opened : openStep o ≡ outcome (Accepted Ze
             extend-13 beyond = own-step now id i found (Extend q) _ (extension-13 (now .settings) (limitAt now i) x q a above new beyond)
 
             pub extend-accepted : InLimit (limitAt now i) (x .authority .end + q .length)
-                → let longer : Authority = record { end = x .authority .end + q .length; start = x .authority .start; number = q .number; asked = q .length } in
+                → let longer : Authority = record { end = x .authority .end + q .length; start = x .authority .start; number = q .number; length = q .length } in
                 step now (Own id (Extend q))
                 ≡ outcome (Accepted (Extended (x .authority .end + q .length) false)) (changed now (Put i (same x (x .motion) (x .order) longer (x .marks))))
             extend-accepted within = own-step now id i found (Extend q) _ (extension-taken (now .settings) (limitAt now i) x q a above new within)
@@ -210,7 +210,7 @@ module _ (o : Opening) (t : Table) (opened : openStep o ≡ outcome (Accepted Ze
     call-back-refused place out = own-step now id i found (CallBack place) _ (call-back-14 (now .settings) (limitAt now i) x place out)
 
     pub call-back-accepted : (place : ℕ) → reachOf x ≤ place → place ≤ x .authority .end
-        → let nearer : Authority = record { end = place; start = x .authority .start; number = x .authority .number; asked = x .authority .asked } in
+        → let nearer : Authority = record { end = place; start = x .authority .start; number = x .authority .number; length = x .authority .length } in
         step now (Own id (CallBack place)) ≡ outcome (Accepted Zeros) (changed now (Put i (same x (x .motion) (x .order) nearer (x .marks))))
     call-back-accepted place low high =
         own-step now id i found (CallBack place) _ (call-back-moves (now .settings) (limitAt now i) x place (always-computable o t opened ds i below) low high)

@@ -10,7 +10,7 @@ use mathlib.Core.Path.{_≡_, refl, sym, ap, subst, _∙_}
 use native.Mathlib.Omega.{arith}
 use borrow.Author.Tests.{eq-eqb}
 use Rattle.calls.specs.declared.Opening.{Opening}
-use Rattle.calls.specs.declared.Asked.{Asked}
+use Rattle.calls.specs.declared.Extension.{Extension}
 use Rattle.calls.specs.declared.Act.{Act}
 use Rattle.calls.specs.declared.Act.the-variants.{Extend}
 use Rattle.calls.specs.declared.Call.the-variants.{Enter, Own, TakeOff}
@@ -27,7 +27,7 @@ use Rattle.train.specs.Ranges.{WorksWith}
 use Rattle.acts.specs.declared.Verdict.the-variants.{TurnedDown, Passed}
 use Rattle.acts.specs.Acts.{isRepeat, extended}
 use Rattle.acts.specs.Decide.{decide, verdict}
-use Rattle.acts.proofs.Sentences.{Asks, extension-repeated, extension-used, extension-accepted, Leaves, act-leaves, number-onward}
+use Rattle.acts.proofs.Sentences.{WellFormed, extension-repeated, extension-used, extension-accepted, Leaves, act-leaves, number-onward}
 use Rattle.table.specs.declared.Table.{Table}
 use Rattle.table.specs.Table.{placeOf, trainAt, limitAt}
 use Rattle.table.proofs.Places.{found-below, still-found, still-there, put-same}
@@ -44,10 +44,10 @@ use Rattle.safety.proofs.Calls.{agrees}
 
 -- a deed with this answer number keeps it
 abbrev KeepsBy : (Train → Type 0) → ℕ → ℕ → Deed → Type 0
-KeepsBy Q id n (made r) = Keeps Q id n (r .asks)
+KeepsBy Q id n (made r) = Keeps Q id n (r .ask)
 
 -- an event's deed keeps it where a request, if it is one, does
-kept-by : (Q : Train → Type 0) (id : ℕ) (e : Event) → ((r : Request) → e .deed ≡ made r → Keeps Q id (e .answer .number) (r .asks))
+kept-by : (Q : Train → Type 0) (id : ℕ) (e : Event) → ((r : Request) → e .deed ≡ made r → Keeps Q id (e .answer .number) (r .ask))
     → KeepsBy Q id (e .answer .number) (e .deed)
 kept-by Q id e keeps = go (e .deed) refl
   where
@@ -71,7 +71,7 @@ lasts Q id (made r ∷ ds) t sized h keeps =
 abbrev pub Takes : Ask → Event → Type 0
 Takes a e = (caller : ℕ) × (e .deed ≡ made (request caller a)) × (isAccepted e ≡ true)
 
-takes : (e : Event) (r : Request) (a : Ask) → e .deed ≡ made r → r .asks ≡ a → e .answer .number ≡ 0 → Takes a e
+takes : (e : Event) (r : Request) (a : Ask) → e .deed ≡ made r → r .ask ≡ a → e .answer .number ≡ 0 → Takes a e
 unfolding isAccepted
 takes e r a is asks zero = (r .caller, is ∙ ap (λ (b : Ask). made (request (r .caller) b)) asks, eq-eqb _ 0 zero)
 
@@ -99,10 +99,10 @@ module _ (id n : ℕ) where
   used-all : (es : List Event) → Stays id es → KeepsAll (Used n) id es
   used-all [] stays = tt
   used-all (e ∷ es) stays =
-      (kept-by (Used n) id e (λ r is. used-kept (r .asks) (e .answer .number) (λ asks zero. stays .0 (takes e r _ is asks zero))), used-all es (stays .1))
+      (kept-by (Used n) id e (λ r is. used-kept (r .ask) (e .answer .number) (λ asks zero. stays .0 (takes e r _ is asks zero))), used-all es (stays .1))
 
 -- an extension with a number that was accepted in this stay leaves the whole table
-used-leaves : (t : Table) (id : ℕ) (q : Asked) → Holds (Used (q .number)) id t → step t (Own id (Extend q)) .table ≡ t
+used-leaves : (t : Table) (id : ℕ) (q : Extension) → Holds (Used (q .number)) id t → step t (Own id (Extend q)) .table ≡ t
 used-leaves t id q h = go (extension-used (t .settings) (limitAt t i) x q (h .so .0) (h .so .1))
   where
     i : ℕ
@@ -122,26 +122,26 @@ used-leaves t id q h = go (extension-used (t .settings) (limitAt t i) x q (h .so
 -- no event is an accepted extension of the train with another number
 abbrev pub NoOther : ℕ → ℕ → List Event → Type 0
 NoOther id n [] = Unit {0}
-NoOther id n (e ∷ es) = ((p : Asked) → Takes (OnTable (Own id (Extend p))) e → p .number ≡ n) × NoOther id n es
+NoOther id n (e ∷ es) = ((p : Extension) → Takes (OnTable (Own id (Extend p))) e → p .number ≡ n) × NoOther id n es
 
 -- q is the last accepted one
-abbrev Last : Asked → Train → Type 0
-Last q x = (x .authority .start < q .number) × (x .authority .number ≡ q .number) × (x .authority .asked ≡ q .length)
+abbrev Last : Extension → Train → Type 0
+Last q x = (x .authority .start < q .number) × (x .authority .number ≡ q .number) × (x .authority .length ≡ q .length)
 
-module _ (id : ℕ) (q : Asked) where
-  last-act : (x y : Train) (a : Act) → Leaves a x y → ((p : Asked) → a ≡ Extend p → p .number ≡ q .number) → Last q x → Last q y
+module _ (id : ℕ) (q : Extension) where
+  last-act : (x y : Train) (a : Act) → Leaves a x y → ((p : Extension) → a ≡ Extend p → p .number ≡ q .number) → Last q x → Last q y
   unfolding extended isRepeat
   last-act x y a leaves same last = go (leaves .numbers)
     where
-      go : ((p : Asked) × (a ≡ Extend p) × (y ≡ extended x p)) ⊎ ((y .authority .number ≡ x .authority .number) × (y .authority .asked ≡ x .authority .asked)) → Last q y
+      go : ((p : Extension) × (a ≡ Extend p) × (y ≡ extended x p)) ⊎ ((y .authority .number ≡ x .authority .number) × (y .authority .length ≡ x .authority .length)) → Last q y
       go (inl (p, e, again)) =
           let repeat : p .number ≡ x .authority .number = same p e ∙ sym (last .1) in
           let unmoved : y ≡ x = again ∙ (rw (eq-eqb (p .number) (x .authority .number) repeat)) in
           subst (Last q) (sym unmoved) last
-      go (inr (number, asked)) = (rw (leaves .start) (last .0), number ∙ last .1, asked ∙ last .2)
+      go (inr (number, length)) = (rw (leaves .start) (last .0), number ∙ last .1, length ∙ last .2)
 
   last-kept : (c : Ask) (m : ℕ) → (c ≡ OnTable (TakeOff id) → m ≡ 0 → ⊥)
-      → ((p : Asked) → c ≡ OnTable (Own id (Extend p)) → m ≡ 0 → p .number ≡ q .number) → Keeps (Last q) id m c
+      → ((p : Extension) → c ≡ OnTable (Own id (Extend p)) → m ≡ 0 → p .number ≡ q .number) → Keeps (Last q) id m c
   last-kept (Open o) m off same = tt
   last-kept (OnTable (Enter e)) m off same = tt
   last-kept (OnTable (Own j a)) m off same = λ mine zero σ limit x passes last.
@@ -152,7 +152,7 @@ module _ (id : ℕ) (q : Asked) where
   last-all [] stays other = tt
   last-all (e ∷ es) stays other = (
     kept-by (Last q) id e
-        (λ r is. last-kept (r .asks) (e .answer .number) (λ asks zero. stays .0 (takes e r _ is asks zero)) (λ p asks zero. other .0 p (takes e r _ is asks zero))),
+        (λ r is. last-kept (r .ask) (e .answer .number) (λ asks zero. stays .0 (takes e r _ is asks zero)) (λ p asks zero. other .0 p (takes e r _ is asks zero))),
     last-all es (stays .1) (other .1),
   )
 
@@ -164,7 +164,7 @@ works-after o (made r ∷ ds) t works = works-after o ds (requested true t r .ta
 -- ---- over every list of deeds
 
 -- on the line that an accepted opening made, after the calls `before`, the extension q of the train is called and accepted
-module _ (o : Opening) (t : Table) (opened : openStep o ≡ outcome (Accepted Zeros) t) (before : List Deed) (id : ℕ) (q : Asked)
+module _ (o : Opening) (t : Table) (opened : openStep o ≡ outcome (Accepted Zeros) t) (before : List Deed) (id : ℕ) (q : Extension)
     (accepted : numbersOf (step (after t before) (Own id (Extend q)) .answer) .number ≡ 0) where
   abbrev then : Table
   then = after t before
@@ -175,8 +175,8 @@ module _ (o : Opening) (t : Table) (opened : openStep o ≡ outcome (Accepted Ze
   sized : Sized granted
   sized = sized-step then (agrees o t opened before .sized) (Own id (Extend q))
 
-  asked : Asks (then .settings) q
-  asked = let a = own-accepted then id (Extend q) accepted in extension-accepted (then .settings) (limitAt then (a .place)) (trainAt then (a .place)) q (a .passes) .asked
+  formed : WellFormed (then .settings) q
+  formed = let a = own-accepted then id (Extend q) accepted in extension-accepted (then .settings) (limitAt then (a .place)) (trainAt then (a .place)) q (a .passes) .formed
 
   last-now : Holds (Last q) id granted
   last-now =
@@ -205,22 +205,22 @@ module _ (o : Opening) (t : Table) (opened : openStep o ≡ outcome (Accepted Ze
     now = after granted since
 
     -- the same number, with any length, leaves the whole table
-    pub repeat-adds-none : (p : Asked) → p .number ≡ q .number → step now (Own id (Extend p)) .table ≡ now
+    pub repeat-adds-none : (p : Extension) → p .number ≡ q .number → step now (Own id (Extend p)) .table ≡ now
     repeat-adds-none p same =
         used-leaves now id p
         (subst (λ (n : ℕ). Holds (Used n) id now) (sym same)
         (lasts (Used (q .number)) id since granted sized used-now (used-all id (q .number) (history granted since) stays)))
 
     -- the line end is still the one that was opened
-    still-asked : Asks (now .settings) q
-    still-asked =
+    still-formed : WellFormed (now .settings) q
+    still-formed =
         let works = agrees o t opened before .settings in
         let end = works-after o since granted (works-step o then works (Own id (Extend q))) .end ∙ sym (works .end) in
         record {
-          number-least = asked .number-least;
-          number-most = asked .number-most;
-          length-least = asked .length-least;
-          length-most = rw end (asked .length-most);
+          number-least = formed .number-least;
+          number-most = formed .number-most;
+          length-least = formed .length-least;
+          length-most = rw end (formed .length-most);
         }
 
     -- as the last accepted one, with its length, it is answered with the end of now and 1
@@ -231,5 +231,5 @@ module _ (o : Opening) (t : Table) (opened : openStep o ≡ outcome (Accepted Ze
         let here : h .place ≡ i = cc (h .found) in
         let (above, number, length) = subst (λ (n : ℕ). Last q (trainAt now n)) here (h .so) in
         own-step now id i found (Extend q) _
-        (extension-repeated (now .settings) (limitAt now i) (trainAt now i) q still-asked above (sym number) (sym length))
+        (extension-repeated (now .settings) (limitAt now i) (trainAt now i) q still-formed above (sym number) (sym length))
         ∙ ap (outcome (Accepted (Extended (trainAt now i .authority .end) true))) (put-same now i (trainAt now i) refl)

@@ -31,7 +31,7 @@ pub record Guarded (σ : Settings) (limit : Limit) (x : Train) : Type 0 where
   pub rear-on-line : stepsOf (x .length) ≤ x .motion .head
   pub end-in-limit : InLimit limit (x .authority .end)
   pub reach-in-end : reachOf x ≤ x .authority .end
-  pub within : Within (x .figures) (σ .limits) (x .motion) (x .order)
+  pub within : Within (x .figures) (σ .maxima) (x .motion) (x .order)
 
 pub guarded-head : (σ : Settings) (limit : Limit) (x : Train) → Guarded σ limit x → x .motion .head ≤ x .authority .end
 guarded-head σ limit x g = le-trans (head-reach (x .figures) (x .motion) (x .order)) (g .reach-in-end)
@@ -46,7 +46,7 @@ guarded-entering σ limit e k sound long limited =
       rear-on-line = long;
       end-in-limit = limited;
       reach-in-end = omega arith;
-      within = within-entering k (σ .limits) (x .motion) refl refl;
+      within = within-entering k (σ .maxima) (x .motion) refl refl;
     }
 
 -- ---- acts
@@ -65,8 +65,8 @@ module _ (σ : Settings) (limit : Limit) (x : Train) (g : Guarded σ limit x) wh
         rear-on-line = le-trans (g .rear-on-line) (allowed-head x r e);
         end-in-limit = g .end-in-limit;
         reach-in-end =
-            order-keeps k (σ .limits) (x .motion) (x .order) m o (goalOf x) (x .authority .end) (g .figures) better (g .reach-in-end) (le-refl _) order;
-        within = within-report k (σ .limits) (x .motion) (x .order) m o (goalOf x) (g .within) better order;
+            order-keeps k (σ .maxima) (x .motion) (x .order) m o (goalOf x) (x .authority .end) (g .figures) better (g .reach-in-end) (le-refl _) order;
+        within = within-report k (σ .maxima) (x .motion) (x .order) m o (goalOf x) (g .within) better order;
       }
 
   -- the other acts leave motion and order as they are

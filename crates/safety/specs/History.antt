@@ -11,7 +11,7 @@ use Rattle.motion.specs.Motion.{nextLevel, releasedLevel, stands}
 use Rattle.calls.specs.declared.Opening.{Opening}
 use Rattle.calls.specs.declared.Entry.{Entry}
 use Rattle.calls.specs.declared.Reading.{Reading}
-use Rattle.calls.specs.declared.Asked.{Asked}
+use Rattle.calls.specs.declared.Extension.{Extension}
 use Rattle.calls.specs.declared.Act.{Act}
 use Rattle.calls.specs.declared.Act.the-variants.{Report, Extend, CallBack, Hold, Lift}
 use Rattle.calls.specs.declared.Call.the-variants.{Enter, Own, TakeOff}
@@ -86,7 +86,7 @@ stateOf r l o a n = record { last = r; level = l; order = o; authority = a; coun
 
 -- the track that a train is lent, up to the end e: s is the starting number of its stay, n the last accepted one, and l its length
 abbrev pub lent : ℕ → ℕ → ℕ → ℕ → Authority
-lent e s n l = record { end = e; start = s; number = n; asked = l }
+lent e s n l = record { end = e; start = s; number = n; length = l }
 
 -- Enter is answered with B and j. The train stands at its head under full brake and has no other track. Nothing is counted.
 abbrev pub toldEntering : Entry → Numbers → Told
@@ -111,7 +111,7 @@ brakedAfter false Brake n = some (suc (Option·getD n 0))
 brakedAfter false (Drive c) n = Option·map suc n
 
 -- a new number adds its length, and the last one again adds none
-abbrev pub longer : Authority → Asked → Authority
+abbrev pub longer : Authority → Extension → Authority
 longer a q = cond (eqb (q .number) (a .number)) a (lent (a .end + q .length) (a .start) (q .number) (q .length))
 
 -- another authority, or other counts
@@ -125,7 +125,7 @@ toldAct k s n (Report r) =
     stateOf r level (orderIn n) (s .authority)
     (record { held = Option·map suc (s .counts .held); braked = brakedAfter (stands k (r .speed) level) (orderIn n) (s .counts .braked) })
 toldAct k s n (Extend q) = still s (longer (s .authority) q) (s .counts)
-toldAct k s n (CallBack p) = still s (lent p (s .authority .start) (s .authority .number) (s .authority .asked)) (s .counts)
+toldAct k s n (CallBack p) = still s (lent p (s .authority .start) (s .authority .number) (s .authority .length)) (s .counts)
 -- held already, it goes on counting
 toldAct k s n Hold = still s (s .authority) (record { held = some (Option·getD (s .counts .held) 0); braked = s .counts .braked })
 toldAct k s n Lift = still s (s .authority) (record { held = none; braked = s .counts .braked })
@@ -165,7 +165,7 @@ toldCall l n (OnTable (TakeOff id)) = withTrains l (without id (l .trains))
 
 -- after an accepted deed with its answer
 abbrev pub toldDeed : Line → Numbers → Deed → Line
-toldDeed l n (made r) = toldCall l n (r .asks)
+toldDeed l n (made r) = toldCall l n (r .ask)
 
 -- after an event; a refused deed tells nothing
 unfoldable pub toldBy : Line → Event → Line

@@ -128,7 +128,7 @@ opening-shown o =
 
 closed-shown : AllShown closed
 unfolding lineDecision decided decideOn mayAsk
-closed-shown (Read r) = go (r .asks)
+closed-shown (Read r) = go (r .ask)
   where
     go : (a : Ask) → Shown (lineDecision closed (Read (request (r .caller) a)) .answer)
     go (Open o) = by-test (eqb (r .caller) dispatcher) (λ right. rw right (opening-shown o)) (λ lacks. rw lacks (refused-shown NoRight))

@@ -11,14 +11,14 @@ use Rattle.stream.specs.declared.Fed.{Fed}
 use Rattle.stream.specs.declared.Finished.{Finished}
 use Rattle.stream.specs.Session.{closed}
 use Rattle.stream.specs.Input.{lines, rest, after, answers, lastAnswer, output, begun, kept, outputWidth, hasRoom, over, answersTo, Taken, TakenOrLeft, FeedPromise, FinishPromise, Turns}
-use Rattle.stream.specs.Input.Turns.{none, more}
+use Rattle.stream.specs.Input.Turns.{no-turns, more}
 use Rattle.stream.proofs.Bytes.{last-long}
 use Rattle.stream.proofs.Lines.{Standing, standing, standing-kept, standing-end, standing-cut}
 
 -- after turns the rest of the input goes on where they stopped
 turns-stand : {x y : Stream} {input w : List ℕ} → Turns x input y w → (b : List ℕ)
     → standing (x .session) (begun x) [] (input ++ b) ≡ standing (y .session) (begun y) w b
-turns-stand none b = refl
+turns-stand no-turns b = refl
 turns-stand {x} (more {input} {y} {w} {piece} {z} t n) b =
     ap (standing (x .session) (begun x) []) (append-assoc input piece b)
     ∙ turns-stand t (piece ++ b)

@@ -120,13 +120,13 @@ module _ (l : List ℕ) (ls : List (List ℕ)) where
 
   safe-line : (r : RequestRead) → lineRead l ≡ r → Safe ls → Safe (l ∷ ls)
   unfolding lineDecision decided mayAsk
-  safe-line (Read r) e = go (r .asks) refl
+  safe-line (Read r) e = go (r .ask) refl
     where
       -- the state after it
-      by-asks : (a : Ask) → r .asks ≡ a → answered closed l .session ≡ repliedTo closed (Read (request (r .caller) a)) .session
+      by-asks : (a : Ask) → r .ask ≡ a → answered closed l .session ≡ repliedTo closed (Read (request (r .caller) a)) .session
       by-asks a q = leaves (Read r) e ∙ ap (λ (a : Ask). repliedTo closed (Read (request (r .caller) a)) .session) q
 
-      go : (a : Ask) → r .asks ≡ a → Safe ls → Safe (l ∷ ls)
+      go : (a : Ask) → r .ask ≡ a → Safe ls → Safe (l ∷ ls)
       go (Open o) q =
           by-test (eqb (r .caller) dispatcher)
           (λ right. safe-opening o (e ∙ ap (λ (a : Ask). Read (request (r .caller) a)) q ∙ ap (λ (n : ℕ). Read (request n (Open o))) (eqb-true (r .caller) 0 right)))

@@ -111,16 +111,16 @@ module _ (l : List ℕ) (t : Table) where
       go : (b : Bool) (r : RequestRead) → Leaves (session b t) (repliedTo (session b t) r)
       go true Unreadable refuses = refl
       go false Unreadable refuses = refl
-      go false (Read r) refuses = before (r .caller) (r .asks) refuses
+      go false (Read r) refuses = before (r .caller) (r .ask) refuses
       go true (Read r) refuses =
           let (zeros, stays) = refusal-keeps t r refuses in
           λ z. record { answer = zeros z; session = session true (stays z) }
 
 -- "a last line without its line feed is answer 1": whatever stands in it. Where nothing follows the last line feed, nothing is answered.
-abbrev zero : List ℕ
-zero = replicate 13 32 ++ (48 ∷ [])
+abbrev zeroText : List ℕ
+zeroText = replicate 13 32 ++ (48 ∷ [])
 
-pub unfinished-1 : (b : ℕ) (bs : List ℕ) → lastAnswer (b ∷ bs) ≡ 32 ∷ 49 ∷ (zero ++ (zero ++ (zero ++ (10 ∷ []))))
+pub unfinished-1 : (b : ℕ) (bs : List ℕ) → lastAnswer (b ∷ bs) ≡ 32 ∷ 49 ∷ (zeroText ++ (zeroText ++ (zeroText ++ (10 ∷ []))))
 unfolding lastAnswer outputLine answerText textOf text left
 unfinished-1 b bs = refl
 

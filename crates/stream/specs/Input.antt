@@ -116,6 +116,6 @@ pub record FinishPromise (x : Stream) (out : List ℕ) (r : Finished) (now : Lis
 
 -- Turn after turn from the stream x on: the bytes that were taken in, the stream after them, and all that was answered.
 pub data Turns (x : Stream) : List ℕ → Stream → List ℕ → Type 0 where
-  none : Turns x [] x []
+  no-turns : Turns x [] x []
   more : {input : List ℕ} {y : Stream} {w piece : List ℕ} {z : Stream} → Turns x input y w → Turn y piece z
       → Turns x (input ++ piece) z (w ++ answersTo y piece)

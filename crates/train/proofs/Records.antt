@@ -21,7 +21,7 @@ use Rattle.calls.specs.declared.Reading.{Reading}
 use Rattle.train.specs.declared.Settings.{Settings}
 use Rattle.train.specs.declared.Train.{Train}
 use Rattle.train.specs.Ranges.{settingsOf, WorksWith}
-use Rattle.train.specs.Record.{figuresFor, isBrake}
+use Rattle.train.specs.Record.{figuresFor}
 use Rattle.train.specs.Report.{allowed, motionAfter, goalOf, moves, mustBrake, orderAfter, computable, reportAllowed}
 
 -- the table works with the numbers that were opened
@@ -42,7 +42,7 @@ computable-bounded x e = bounds-tested _ _ _ e
 pub record Passed (σ : Settings) (x : Train) (r : Reading) : Type 0 where
   pub computes : computable x ≡ true
   pub allows : allowed x r ≡ true
-  pub bounded : Bounded (x .figures) (motionAfter x r) (σ .limits .traction)
+  pub bounded : Bounded (x .figures) (motionAfter x r) (σ .maxima .traction)
 
 pub report-passed : (σ : Settings) (x : Train) (r : Reading) → reportAllowed σ x r ≡ true → Passed σ x r
 unfolding reportAllowed
@@ -57,11 +57,11 @@ unfolding orderAfter
 must-brake σ x m e = rw (e, orderAfter)
 
 -- Otherwise: what the rule gives against the goal.
-pub free-order : (σ : Settings) (x : Train) (m : Motion) → mustBrake x m ≡ false → orderAfter σ x m ≡ orderFor (x .figures) (σ .limits) (goalOf x) m
+pub free-order : (σ : Settings) (x : Train) (m : Motion) → mustBrake x m ≡ false → orderAfter σ x m ≡ orderFor (x .figures) (σ .maxima) (goalOf x) m
 unfolding orderAfter
 free-order σ x m e = rw (e, orderAfter)
 
-pub may-order : (σ : Settings) (x : Train) (m : Motion) → MayOrder (x .figures) (σ .limits) (goalOf x) m (orderAfter σ x m)
+pub may-order : (σ : Settings) (x : Train) (m : Motion) → MayOrder (x .figures) (σ .maxima) (goalOf x) m (orderAfter σ x m)
 may-order σ x m = by-test (mustBrake x m) (λ e. inl (must-brake σ x m e)) (λ e. inr (free-order σ x m e))
 
 -- marked and still moving
@@ -73,7 +73,3 @@ penalty-brakes σ x m e moving = must-brake σ x m (rw (e, moving))
 pub held-brakes : (σ : Settings) (x : Train) (m : Motion) → x .marks .held ≡ true → orderAfter σ x m ≡ Brake
 unfolding mustBrake
 held-brakes σ x m e = must-brake σ x m (by-test (x .marks .penalty && moves (x .figures) m) (λ f. rw f) (λ f. rw (f, e)))
-
-pub brake-tested : (o : Order) → isBrake o ≡ true → o ≡ Brake
-brake-tested (Drive c) e = let z : _≡_ {A = ℕ} 0 1 = cc in absurd (omega arith)
-brake-tested Brake e = refl

@@ -16,6 +16,8 @@ use Rattle.motion.specs.declared.Motion.{Motion}
 use Rattle.motion.specs.declared.Order.{Order}
 use Rattle.motion.specs.declared.Order.the-variants.{Drive, Brake}
 use Rattle.motion.specs.Motion.{stands, stoppingDistance}
+use Rattle.motion.specs.Orders.{isBrake}
+use Rattle.motion.proofs.Sentences.{brake-tested}
 use Rattle.motion.proofs.OrderSentences.{GreatestCap, drive-exactly, brake-at-zero}
 use Rattle.brake.specs.declared.Figures.{Figures}
 use Rattle.brake.specs.Consist.{Sound}
@@ -25,11 +27,11 @@ use Rattle.train.specs.declared.Settings.{Settings}
 use Rattle.train.specs.declared.Authority.{Authority}
 use Rattle.train.specs.declared.Train.{Train}
 use Rattle.train.specs.Ranges.{settingsInRange}
-use Rattle.train.specs.Record.{freshAuthority, endingAt, isBrake}
+use Rattle.train.specs.Record.{freshAuthority, endingAt}
 use Rattle.train.specs.Track.{stepsOf, limitBehind}
 use Rattle.train.specs.Report.{worstOf, allowed, moves, mustBrake, orderAfter, isPenalty, ordered}
 use Rattle.train.proofs.Track.{InLimit, limit-first, in-behind, behind-in}
-use Rattle.train.proofs.Records.{held-brakes, penalty-brakes, free-order, brake-tested}
+use Rattle.train.proofs.Records.{held-brakes, penalty-brakes, free-order}
 
 -- ---- the settings
 
@@ -75,11 +77,11 @@ limit-behind σ a place = (in-behind σ a place, behind-in σ a place)
 -- ---- the authority
 
 -- "end = head ... and a starting request number for this stay"
-pub fresh-authority : (h s : ℕ) → freshAuthority h s ≡ record { end = h; start = s; number = s; asked = 0 }
+pub fresh-authority : (h s : ℕ) → freshAuthority h s ≡ record { end = h; start = s; number = s; length = 0 }
 fresh-authority h s = refl
 
 -- another end, and nothing else
-pub another-end : (a : Authority) (place : ℕ) → endingAt a place ≡ record { end = place; start = a .start; number = a .number; asked = a .asked }
+pub another-end : (a : Authority) (place : ℕ) → endingAt a place ≡ record { end = place; start = a .start; number = a .number; length = a .length }
 another-end a place = refl
 
 -- ---- reports
@@ -137,13 +139,13 @@ module _ (σ : Settings) (x : Train) (m : Motion) where
             (λ e. by-test (x .marks .penalty) (λ f. rw (f, e, free)) (λ f. rw (f, free)))
 
     -- "Otherwise drive with the greatest cap c from 0 to A where v + c is at most V and the reach is at most the end of authority."
-    pub free-drives : (c : ℕ) → (orderAfter σ x m ≡ Drive c) ↔ GreatestCap (x .figures) (σ .limits) (x .authority .end) m c
-    free-drives c = rw (free-order σ x m as-usual) (drive-exactly (x .figures) (σ .limits) (x .authority .end) m c)
+    pub free-drives : (c : ℕ) → (orderAfter σ x m ≡ Drive c) ↔ GreatestCap (x .figures) (σ .maxima) (x .authority .end) m c
+    free-drives c = rw (free-order σ x m as-usual) (drive-exactly (x .figures) (σ .maxima) (x .authority .end) m c)
 
     -- "No such c: brake."
     pub free-brakes : Sound (x .figures) → (orderAfter σ x m ≡ Brake)
-        ↔ ((σ .limits .ceiling < m .speed) ⊎ (x .authority .end < m .head + 2 * m .speed + stoppingDistance (x .figures) (m .speed) 0))
-    free-brakes s = rw (free-order σ x m as-usual) (brake-at-zero (x .figures) (σ .limits) (x .authority .end) m s)
+        ↔ ((σ .maxima .ceiling < m .speed) ⊎ (x .authority .end < m .head + 2 * m .speed + stoppingDistance (x .figures) (m .speed) 0))
+    free-brakes s = rw (free-order σ x m as-usual) (brake-at-zero (x .figures) (σ .maxima) (x .authority .end) m s)
 
 -- ---- the mark
 

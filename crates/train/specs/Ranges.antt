@@ -11,11 +11,11 @@ settingsInRange o = lineEndInRange (o .end) && safetyInRange (o .safety) && ceil
 
 -- the settings that a table works with, from what the opening gave
 abbrev pub settingsOf : Opening → Settings
-settingsOf o = record { end = o .end; safety = o .safety; limits = record { ceiling = o .ceiling; traction = o .traction } }
+settingsOf o = record { end = o .end; safety = o .safety; maxima = record { ceiling = o .ceiling; traction = o .traction } }
 
 -- the settings σ have the numbers that were opened
 pub record WorksWith (o : Opening) (σ : Settings) : Type 0 where
   pub end : σ .end ≡ o .end
   pub safety : σ .safety ≡ o .safety
-  pub ceiling : σ .limits .ceiling ≡ o .ceiling
-  pub traction : σ .limits .traction ≡ o .traction
+  pub ceiling : σ .maxima .ceiling ≡ o .ceiling
+  pub traction : σ .maxima .traction ≡ o .traction

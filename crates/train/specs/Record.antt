@@ -1,12 +1,12 @@
 -- Document 01, "Orders" and "Authorities", and document 02, (ii): a train record, in parts. A part that a call sets has a definition for its value on entering.
 use Prim.Native.Nat.{ℕ}
-use mathlib.Core.Bool.{Bool, true, false}
+use mathlib.Core.Bool.{false}
 use Rattle.brake.specs.declared.Figures.{Figures}
 use Rattle.brake.specs.declared.FiguresFound.{FiguresFound}
 use Rattle.brake.specs.Consist.{figuresOf}
 use Rattle.motion.specs.declared.Motion.{Motion}
 use Rattle.motion.specs.declared.Order.{Order}
-use Rattle.motion.specs.declared.Order.the-variants.{Drive, Brake}
+use Rattle.motion.specs.declared.Order.the-variants.{Brake}
 use Rattle.calls.specs.declared.Entry.{Entry}
 use Rattle.train.specs.declared.Settings.{Settings}
 use Rattle.train.specs.declared.Authority.{Authority}
@@ -22,7 +22,7 @@ figuresFor σ e = figuresOf (e .load) (e .length)
 
 -- an authority up to the end e, in a stay with the starting number s: n is the last accepted number, and l its length
 abbrev pub authorityTo : ℕ → ℕ → ℕ → ℕ → Authority
-authorityTo e s n l = record { end = e; start = s; number = n; asked = l }
+authorityTo e s n l = record { end = e; start = s; number = n; length = l }
 
 -- Enter: end = head, and a starting request number for this stay; no length has been asked for
 abbrev pub freshAuthority : ℕ → ℕ → Authority
@@ -30,7 +30,7 @@ freshAuthority h s = authorityTo h s s 0
 
 -- the same with another end
 abbrev pub endingAt : Authority → ℕ → Authority
-endingAt a place = authorityTo place (a .start) (a .number) (a .asked)
+endingAt a place = authorityTo place (a .start) (a .number) (a .length)
 
 -- not held, and no penalty brake
 abbrev pub freshMarks : Marks
@@ -47,8 +47,3 @@ same x m o a ms = trainOf (x .id) (x .length) (x .figures) m o a ms
 
 abbrev pub authorised : Train → Authority → Train
 authorised x a = same x (x .motion) (x .order) a (x .marks)
-
--- whether an order is brake
-abbrev pub isBrake : Order → Bool
-isBrake (Drive c) = false
-isBrake Brake = true

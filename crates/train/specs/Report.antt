@@ -7,12 +7,12 @@ use Rattle.motion.specs.declared.Motion.{Motion}
 use Rattle.motion.specs.declared.Order.{Order}
 use Rattle.motion.specs.declared.Order.the-variants.{Brake}
 use Rattle.motion.specs.Motion.{stands}
-use Rattle.motion.specs.Orders.{orderCap, worstCase, reach, orderFor}
+use Rattle.motion.specs.Orders.{orderCap, isBrake, worstCase, reach, orderFor}
 use Rattle.motion.specs.Bounds.{inBounds}
 use Rattle.calls.specs.declared.Reading.{Reading}
 use Rattle.train.specs.declared.Settings.{Settings}
 use Rattle.train.specs.declared.Train.{Train}
-use Rattle.train.specs.Record.{same, isBrake}
+use Rattle.train.specs.Record.{same}
 
 -- worst case of a train's last order
 abbrev pub worstOf : Train → Motion
@@ -45,7 +45,7 @@ mustBrake x m = (x .marks .penalty && moves (x .figures) m) || x .marks .held
 
 -- Otherwise drive with the greatest cap, or brake where there is none.
 unfoldable pub orderAfter : Settings → Train → Motion → Order
-orderAfter σ x m = elim (mustBrake x m) [ true ↦ Brake | false ↦ orderFor (x .figures) (σ .limits) (goalOf x) m ]
+orderAfter σ x m = elim (mustBrake x m) [ true ↦ Brake | false ↦ orderFor (x .figures) (σ .maxima) (goalOf x) m ]
 
 -- a brake order to a moving train: a penalty brake
 unfoldable pub isPenalty : Figures → Motion → Order → Bool
@@ -66,4 +66,4 @@ computable x = inBounds (x .figures) (x .motion) (orderCap (x .order))
 -- What a report is judged by. On a table that calls left this is `allowed` (safety/proofs/Bounds: report-judged); the rest keeps
 -- sums within 64 bits on any other table.
 unfoldable pub reportAllowed : Settings → Train → Reading → Bool
-reportAllowed σ x r = computable x && allowed x r && inBounds (x .figures) (motionAfter x r) (σ .limits .traction)
+reportAllowed σ x r = computable x && allowed x r && inBounds (x .figures) (motionAfter x r) (σ .maxima .traction)

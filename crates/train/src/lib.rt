@@ -1,24 +1,24 @@
 // No code: one train's record, its limit, and how a report is judged and answered. Document 01, "Line and consist" and "Orders". The functions
 // are in `train_code`.
 use brake::Figures;
-use motion::Limits;
+use motion::Maxima;
 use motion::Motion;
 use motion::Order;
 
-// Settings that a table works with: line end, safety distance, and the limits of every train's motion, V and A.
+// Settings that a table works with: line end, safety distance, and the maxima of every train's motion, V and A.
 pub struct Settings {
     pub end: u64,
     pub safety: u64,
-    pub limits: Limits,
+    pub maxima: Maxima,
 }
 
 // The stretch of track that a train is lent. The end is the end of authority. The number is the last accepted request number,
-// and asked is its length; before the first one they are the starting number and 0.
+// and length is the one that it asked for; before the first one they are the starting number and 0.
 pub struct Authority {
     pub end: u64,
     pub start: u64,
     pub number: u64,
-    pub asked: u64,
+    pub length: u64,
 }
 
 // What calls have marked a train with: a hold, and a penalty brake, which stays on until the train stands.

@@ -7,7 +7,7 @@ ghost use Rattle.ranges.specs.Ranges.{greatestLength};
 ghost use Rattle.motion_code.specs.Offers.{offer};
 ghost use Rattle.motion.specs.Bounds.{Bounded};
 ghost use Rattle.train.specs.Ranges.{settingsInRange, settingsOf};
-ghost use Rattle.train.specs.Record.{figuresFor, authorityTo, freshAuthority, endingAt, freshMarks, entering, isBrake};
+ghost use Rattle.train.specs.Record.{figuresFor, authorityTo, freshAuthority, endingAt, freshMarks, entering};
 ghost use Rattle.train.specs.Track.{stepsOf, limitBehind, withinLimit};
 ghost use Rattle.train.specs.Report.{worstOf, reachOf, allowed, motionAfter, moves, mustBrake, orderAfter, isPenalty, ordered, reported, computable, reportAllowed};
 ghost use Rattle.train_code.specs.Report.{withReach};
@@ -16,7 +16,7 @@ use brake::FiguresFound;
 use calls::Entry;
 use calls::Opening;
 use calls::Reading;
-use motion::Limits;
+use motion::Maxima;
 use motion::Motion;
 use motion::Order;
 use motion_code::Offer;
@@ -52,7 +52,7 @@ pub fn settings_of(o: Opening) -> Settings
     Settings {
         end: o.end,
         safety: o.safety,
-        limits: Limits {
+        maxima: Maxima {
             ceiling: o.ceiling,
             traction: o.traction,
         },
@@ -111,14 +111,14 @@ pub fn figures_for(s: Settings, e: Entry) -> FiguresFound
 }
 
 // Every authority is made here.
-pub fn authority_to(end: u64, start: u64, number: u64, asked: u64) -> Authority
-    ensures { λ r. ⌜ r ≡ authorityTo end start number asked ⌝ }
+pub fn authority_to(end: u64, start: u64, number: u64, length: u64) -> Authority
+    ensures { λ r. ⌜ r ≡ authorityTo end start number length ⌝ }
 {
     Authority {
         end,
         start,
         number,
-        asked,
+        length,
     }
 }
 
@@ -133,7 +133,7 @@ pub fn fresh_authority(head: u64, start: u64) -> Authority
 pub fn ending_at(a: Authority, place: u64) -> Authority
     ensures { λ r. ⌜ r ≡ endingAt a place ⌝ }
 {
-    authority_to(place, a.start, a.number, a.asked)
+    authority_to(place, a.start, a.number, a.length)
 }
 
 pub fn fresh_marks() -> Marks
@@ -182,16 +182,6 @@ fn with_order(x: Train, m: Motion, o: Order) -> Train
         order: o,
         authority: a,
         marks: s,
-    }
-}
-
-// Whether an order is brake.
-pub fn is_brake(o: Order) -> bool
-    ensures { λ r. ⌜ r ≡ isBrake o ⌝ }
-{
-    match o {
-        Order::Drive(_) => false,
-        Order::Brake => true,
     }
 }
 
@@ -261,11 +251,11 @@ pub fn report_allowed(s: Settings, x: Train, r: Reading) -> bool
         return false;
     }
     let k = x.figures;
-    let limits = s.limits;
+    let maxima = s.maxima;
     let m = motion_after(x, r);
     logic::both(
         is_allowed(x, r),
-        motion_code::in_bounds(k, m, limits.traction),
+        motion_code::in_bounds(k, m, maxima.traction),
     )
 }
 
@@ -280,7 +270,7 @@ fn is_moving(k: Figures, m: Motion) -> bool
 fn is_penalty(k: Figures, m: Motion, o: Order) -> bool
     ensures { λ r. ⌜ r ≡ isPenalty k m o ⌝ }
 {
-    logic::both(is_brake(o), is_moving(k, m))
+    logic::both(motion_code::is_brake(o), is_moving(k, m))
 }
 
 // Brake, whatever the track. Neither a lift nor more track ends a penalty brake: only a stand does.
@@ -295,16 +285,16 @@ fn must_brake(x: Train, m: Motion) -> bool
 
 // A hold acts here, at the next report, and not on the order already given.
 fn order_after(s: Settings, x: Train, m: Motion) -> Offer
-    requires { ⌜ Bounded (x .figures) m (s .limits .traction) ⌝ }
+    requires { ⌜ Bounded (x .figures) m (s .maxima .traction) ⌝ }
     ensures { λ r. ⌜ r ≡ offer (x .figures) m (orderAfter s x m) ⌝ }
 {
     let k = x.figures;
     if must_brake(x, m) {
         return motion_code::offer_of(k, m, Order::Brake);
     }
-    let limits = s.limits;
+    let maxima = s.maxima;
     let a = x.authority;
-    caps_code::order_for(k, limits, a.end, m)
+    caps_code::order_for(k, maxima, a.end, m)
 }
 
 // The record after a report that is allowed, and its reach, which the search for the order has found.

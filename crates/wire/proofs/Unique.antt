@@ -17,7 +17,7 @@ use Rattle.wire.specs.declared.Scan.{Scan}
 use Rattle.wire.specs.declared.Scan.the-variants.{Blank, Digits, Bad}
 use Rattle.wire.specs.declared.Field.{Field}
 use Rattle.wire.specs.declared.Field.the-variants.{Number, NoNumber}
-use Rattle.wire.specs.Format.{total, callColumns, callWidth, isDigit, digit, column, columns, soFar, ended, fieldOf, withNumber, numbersIn, asked, lineRead, left, text, textOf}
+use Rattle.wire.specs.Format.{total, callColumns, callWidth, isDigit, digit, column, columns, soFar, ended, fieldOf, withNumber, numbersIn, requestBy, lineRead, left, text, textOf}
 use Rattle.wire.proofs.Fields.{digit-range, column-below}
 use Rattle.wire.proofs.RoundTrip.{long-more, Fits}
 
@@ -125,14 +125,14 @@ pub record Typed (line : List ℕ) : Type 0 where
   pub numbers : List ℕ
   pub fits : Fits callColumns numbers
   pub text : line ≡ textOf callColumns numbers
-  pub asks : lineRead line ≡ requestOf numbers
+  pub reads : lineRead line ≡ requestOf numbers
 
-typed-by : (line : List ℕ) (r : Option (List ℕ)) → length line ≡ callWidth → numbersIn callColumns line ≡ r → lineRead line ≡ asked r
+typed-by : (line : List ℕ) (r : Option (List ℕ)) → length line ≡ callWidth → numbersIn callColumns line ≡ r → lineRead line ≡ requestBy r
     → (lineRead line ≡ Unreadable → ⊥) → Typed line
 typed-by line none h e s k = absurd (k s)
 typed-by line (some ns) h e s k =
     let t = numbers-text callColumns line ns (sym h) e in
-    record { long = h; numbers = ns; fits = t .1; text = t .0; asks = s }
+    record { long = h; numbers = ns; fits = t .1; text = t .0; reads = s }
 
 -- a line that is read is the text of its own numbers, so that nothing else is taken for a request
 pub line-typed : (line : List ℕ) → (lineRead line ≡ Unreadable → ⊥) → Typed line

@@ -78,13 +78,13 @@ numbersIn [] line = some []
 numbersIn (w ∷ ws) line = withNumber (fieldOf (take w line)) (numbersIn ws (drop w line))
 
 -- what the numbers of a line ask, if it has them
-abbrev pub asked : Option (List ℕ) → RequestRead
-asked none = Unreadable
-asked (some ns) = requestOf ns
+abbrev pub requestBy : Option (List ℕ) → RequestRead
+requestBy none = Unreadable
+requestBy (some ns) = requestOf ns
 
 -- an input line without its line feed
 unfoldable pub lineRead : List ℕ → RequestRead
-lineRead line = cond (eqb (length line) callWidth) (asked (numbersIn callColumns line)) Unreadable
+lineRead line = cond (eqb (length line) callWidth) (requestBy (numbersIn callColumns line)) Unreadable
 
 -- ---- writing
 

@@ -11,7 +11,7 @@ use borrow.Author.Needs.{needs}
 use Rattle.logic.proofs.Tests.{not-both}
 use Rattle.stream.specs.declared.Stream.{Stream}
 use Rattle.stream.specs.Input.{Turn}
-use Rattle.stream.specs.Input.Turns.{none, more}
+use Rattle.stream.specs.Input.Turns.{no-turns, more}
 use Rattle.session.specs.Program.{TookIn}
 use Rattle.session.proofs.run.Statement.{statement}
 use Rattle.session.proofs.run.Tie as tie
@@ -33,7 +33,7 @@ took-more x y z read n piece t h m =
     }
 
 loop-holds : tie.Need-loop-holds Inv-loop μ-loop
-loop-holds c = (refl, refl, record { input = []; answered = []; turns = none; count = refl })
+loop-holds c = (refl, refl, record { input = []; answered = []; turns = no-turns; count = refl })
 
 -- where a turn leads
 turned : (c : tie.After-turn Inv-loop μ-loop)

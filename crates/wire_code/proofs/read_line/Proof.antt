@@ -6,7 +6,7 @@ use mathlib.Core.Option.{none, some}
 use Rattle.wire_code.specs.declared.Row.{Row}
 use borrow.Author.Tests.{eq-eqb, ne-eqb, not-true, not-false}
 use borrow.Author.Needs.{needs}
-use Rattle.wire.specs.Format.{asked, lineRead}
+use Rattle.wire.specs.Format.{requestBy, lineRead}
 use Rattle.wire_code.specs.Rows.{rowNumbers}
 use Rattle.wire_code.proofs.read_line.Statement.{statement}
 use Rattle.wire_code.proofs.read_line.Tie as tie
@@ -25,13 +25,13 @@ returns-2 : tie.Need-returns-2
 unfolding lineRead
 returns-2 c =
     let row = c .before .before .before in
-    simp (eq-eqb _ _ (row .before .if1 .left)) (ap asked (sym (unread (row .numbers-in .result) (c .if2 .taken)) ∙ row .numbers-in .ensures))
+    simp (eq-eqb _ _ (row .before .if1 .left)) (ap requestBy (sym (unread (row .numbers-in .result) (c .if2 .taken)) ∙ row .numbers-in .ensures))
 
 returns-3 : tie.Need-returns-3
 unfolding lineRead
 returns-3 c =
     let row = c .before .before .before .before in
-    simp (eq-eqb _ _ (row .before .if1 .left)) (c .request-of .ensures ∙ ap asked (sym (read (row .numbers-in .result) (c .before .if2 .left)) ∙ row .numbers-in .ensures))
+    simp (eq-eqb _ _ (row .before .if1 .left)) (c .request-of .ensures ∙ ap requestBy (sym (read (row .numbers-in .result) (c .before .if2 .left)) ∙ row .numbers-in .ensures))
 
 pub read-line-spec : {M : Type 1} → statement M
 read-line-spec =
