@@ -35,12 +35,12 @@ use Rattle.train.specs.declared.Limit.{Limit}
 use Rattle.acts.specs.declared.Verdict.{Verdict}
 use Rattle.acts.specs.declared.Verdict.the-variants.{TurnedDown, Passed}
 use Rattle.train.specs.Record.{same}
-use Rattle.train.specs.Report.{worstOf, reachOf, orderAfter, isPenalty, reported, computable, reportAllowed}
+use Rattle.train.specs.Report.{orderAfter, isPenalty, reported, computable, reportAllowed}
 use Rattle.acts.specs.Acts.{requestInRange, isOld, isRepeat, extended, callBackAllowed, mayLeave}
 use Rattle.acts.specs.Decide.{decide, verdict}
 use Rattle.train.proofs.Track.{InLimit, limit-within, limit-beyond}
 use Rattle.train.proofs.Records.{report-passed}
-use Rattle.train.proofs.Sentences.{report-exactly, penalty-order}
+use Rattle.train.proofs.Sentences.{Allows, report-exactly, levelFound, motion-found, penalty-order}
 use Rattle.acts.proofs.Verdicts.{report-refused, report-taken, extend-bad, extend-old, extend-other, extend-repeat, extend-beyond, extend-new, call-back-refused, call-back-taken}
 
 -- ---- reports
@@ -50,20 +50,20 @@ module _ (σ : Settings) (limit : Limit) (x : Train) (r : Reading) where
   report = verdict (decide σ limit x (Report r))
 
   -- 9 "report not allowed"
-  pub report-9 : ((x .motion .head ≤ r .head) × (r .head ≤ worstOf x .head) × (r .speed ≤ worstOf x .speed) → ⊥) → report ≡ TurnedDown NotAllowed
+  pub report-9 : (Allows (x .figures) (x .motion) (x .order) r → ⊥) → report ≡ TurnedDown NotAllowed
   report-9 out =
       by-test (reportAllowed σ x r) (λ e. absurd (out (report-exactly x r .0 (report-passed σ x r e .allows)))) (λ e. report-refused σ x r e)
 
   -- "A report gives head and speed at the end of a cycle"; the level is the one found after the last cycle. The record gets them, the order and
   -- the mark that they make; the answer that order and its reach.
   pub report-answered : reportAllowed σ x r ≡ true
-      → let m : Motion = record { head = r .head; speed = r .speed; level = worstOf x .level } in
+      → let m : Motion = record { head = r .head; speed = r .speed; level = levelFound (x .figures) (x .motion) (x .order) } in
       let o = orderAfter σ x m in
       report
       ≡ Passed (Ordered o (reach (x .figures) m o))
       (same x m o (x .authority) (record { held = x .marks .held; penalty = isPenalty (x .figures) m o }))
   unfolding reported
-  report-answered e = report-taken σ x r e
+  report-answered e = rw (← (motion-found x r)) (report-taken σ x r e)
 
 -- ---- extend
 
@@ -181,11 +181,11 @@ module _ (σ : Settings) (limit : Limit) (x : Train) (q : Extension) where
 
 -- ---- call back
 
-pub call-back-between : (x : Train) (place : ℕ) → callBackAllowed x place ≡ true → (reachOf x ≤ place) × (place ≤ x .authority .end)
+pub call-back-between : (x : Train) (place : ℕ) → callBackAllowed x place ≡ true → (reach (x .figures) (x .motion) (x .order) ≤ place) × (place ≤ x .authority .end)
 unfolding callBackAllowed
-call-back-between x place e = between-exactly (reachOf x) (x .authority .end) place .0 (both (computable x) _ e .1)
+call-back-between x place e = between-exactly (reach (x .figures) (x .motion) (x .order)) (x .authority .end) place .0 (both (computable x) _ e .1)
 
-pub call-back-tested : (x : Train) (place : ℕ) → computable x ≡ true → callBackAllowed x place ≡ between (reachOf x) (x .authority .end) place
+pub call-back-tested : (x : Train) (place : ℕ) → computable x ≡ true → callBackAllowed x place ≡ between (reach (x .figures) (x .motion) (x .order)) (x .authority .end) place
 unfolding callBackAllowed
 call-back-tested x place e = rw e
 
@@ -194,17 +194,18 @@ module _ (σ : Settings) (limit : Limit) (x : Train) (place : ℕ) where
   calling = verdict (decide σ limit x (CallBack place))
 
   -- "the end becomes a named place from reach to end, both included"
-  pub call-back-moves : computable x ≡ true → reachOf x ≤ place → place ≤ x .authority .end
+  pub call-back-moves : computable x ≡ true → reach (x .figures) (x .motion) (x .order) ≤ place → place ≤ x .authority .end
       → calling
       ≡ Passed Zeros
       (same x (x .motion) (x .order) (record { end = place; start = x .authority .start; number = x .authority .number; length = x .authority .length }) (x .marks))
   call-back-moves computes low high = call-back-taken x place (call-back-tested x place computes ∙ between-exactly _ _ place .1 (low, high))
 
   -- 14 "place below reach or above end"
-  pub call-back-14 : (place < reachOf x) ⊎ (x .authority .end < place) → calling ≡ TurnedDown BadPlace
+  pub call-back-14 : (place < reach (x .figures) (x .motion) (x .order)) ⊎ (x .authority .end < place) → calling ≡ TurnedDown BadPlace
   call-back-14 h = by-test (callBackAllowed x place) (λ e. absurd (out (call-back-between x place e) h)) (λ e. call-back-refused x place e)
     where
-      out : (reachOf x ≤ place) × (place ≤ x .authority .end) → (place < reachOf x) ⊎ (x .authority .end < place) → ⊥
+      out : (reach (x .figures) (x .motion) (x .order) ≤ place) × (place ≤ x .authority .end)
+          → (place < reach (x .figures) (x .motion) (x .order)) ⊎ (x .authority .end < place) → ⊥
       out ends (inl low) = omega arith
       out ends (inr high) = omega arith
 

@@ -1,4 +1,4 @@
 pub mod Answers
 pub mod Checks
-pub mod Requests
+pub mod Sentences
 pub mod Examples

@@ -2,7 +2,7 @@
 -- `step` and `openDecision` are what a call comes to by a caller with the right (Rights: call-rightful, open-rightful).
 -- Assumes nothing.
 use Prim.Native.Nat.{ℕ, _*_, _≤_, _<_}
-use mathlib.Core.Bool.{true, false, _&&_}
+use mathlib.Core.Bool.{Bool, true, false, _&&_}
 use mathlib.Core.Logic.{by-cases, _⊎_, inl, inr}
 use mathlib.Core.Option.{none, some}
 use mathlib.Core.Path.{_≡_, refl, ap, _∙_}
@@ -21,17 +21,20 @@ use Rattle.calls.specs.declared.Entry.{Entry}
 use Rattle.calls.specs.declared.Act.{Act}
 use Rattle.calls.specs.declared.Call.{Call}
 use Rattle.calls.specs.declared.Call.the-variants.{Enter, Own, TakeOff}
+use Rattle.calls.specs.declared.Ask.{Ask}
 use Rattle.calls.specs.declared.Ask.the-variants.{Open, OnTable}
 use Rattle.calls.specs.declared.Request.{Request}
 use Rattle.calls.specs.declared.Refusal.the-variants.{OutOfTurn, BadSetting, BadEntry, OnLine, LineFull, BadHead, NoTrain, NotLeaving}
 use Rattle.calls.specs.declared.Answer.the-variants.{Accepted, Refused}
 use Rattle.calls.specs.declared.Values.the-variants.{Entered, Zeros}
-use Rattle.calls.specs.Answers.{numbers, numbersOf}
+use Rattle.calls.specs.Answers.{numbersOf}
 use Rattle.calls.specs.Requests.{request}
 use Rattle.calls.proofs.Answers.{accepted-0}
+use Rattle.rights.specs.Rights.{mayAsk}
 use Rattle.acts.specs.declared.Verdict.{Verdict}
+use Rattle.train.specs.declared.Train.{Train}
 use Rattle.train.specs.Ranges.{settingsInRange, WorksWith}
-use Rattle.train.specs.Record.{trainOf, figuresFor}
+use Rattle.train.specs.Record.{figuresFor}
 use Rattle.train.specs.Track.{stepsOf}
 use Rattle.acts.specs.Acts.{mayLeave}
 use Rattle.acts.specs.Decide.{decide, verdict}
@@ -44,22 +47,24 @@ use Rattle.table.specs.declared.Change.the-variants.{Stay, Add, DropFirst, Anew
 use Rattle.table.specs.Table.{placeOf, trainAt, limitAt, changed}
 use Rattle.table.proofs.Places.{FoundAt}
 use Rattle.line.specs.declared.Decision.{Decision}
-use Rattle.line.specs.Decide.{refused, accepted, openDecision, enterDecision, rulingAt, decideOn, decided}
+use Rattle.line.specs.Decide.{refused, accepted, openDecision, enterDecision, rulingAt, decideOn, outOfTurn, decided}
 use Rattle.line.specs.Step.{outcome, carriedOut, requested, openStep}
-use Rattle.line.proofs.Steps.{step, any-call, any-request, open-taken, open-refused, open-made, enter-unfit, enter-fit, enter-bad, enter-known, enter-full, enter-short, enter-beyond, enter-taken, own-unknown, take-off-unknown, placed, own-found, take-off-refused, take-off-taken}
+use Rattle.line.proofs.Steps.{step, any-call, open-taken, open-refused, open-made, enter-unfit, enter-fit, enter-bad, enter-known, enter-full, enter-short, enter-beyond, enter-taken, own-unknown, take-off-unknown, placed, own-found, take-off-refused, take-off-taken}
 
 -- ---- a refusal gives its number and zeros, and the whole table stays
 
 -- an answer that accepts, or a refusal that changes nothing
 abbrev Kept : Decision → Type 0
-Kept d = (numbersOf (d .answer) .number ≡ 0) ⊎ ((numbersOf (d .answer) ≡ numbers (numbersOf (d .answer) .number) 0 0 0) × (d .change ≡ Stay))
+Kept d = (numbersOf (d .answer) .number ≡ 0) ⊎ ((numbersOf (d .answer) ≡ record { number = numbersOf (d .answer) .number; first = 0; second = 0; third = 0 }) × (d .change ≡ Stay))
 
-pub refusal-keeps : (t : Table) (r : Request) → (numbersOf (requested true t r .answer) .number ≡ 0 → ⊥)
-    → (numbersOf (requested true t r .answer) ≡ numbers (numbersOf (requested true t r .answer) .number) 0 0 0) × (requested true t r .table ≡ t)
-refusal-keeps t r refuses = go (decided true t r) (any-request t (λ r d. Kept d) (λ r why. inr (refl, refl)) (λ r c asks. kept c) r) refuses
+-- before an accepted opening and after one, whoever calls
+pub refusal-keeps : (opened : Bool) (t : Table) (r : Request) → let n = numbersOf (requested opened t r .answer) in (n .number ≡ 0 → ⊥)
+    → (n ≡ record { number = n .number; first = 0; second = 0; third = 0 }) × (requested opened t r .table ≡ t)
+unfolding decided decideOn
+refusal-keeps opened t r = keeps (decided opened t r) kept
   where
-    kept : (c : Call) → Kept (decideOn t (OnTable c))
-    kept =
+    on-table : (c : Call) → Kept (decideOn t (OnTable c))
+    on-table =
         any-call t (λ c d. Kept d)
         (record {
           refuses = λ c r. inr (refl, refl);
@@ -68,10 +73,20 @@ refusal-keeps t r refuses = go (decided true t r) (any-request t (λ r d. Kept d
           leaves = λ id i q may. inl refl;
         })
 
-    go : (d : Decision) → Kept d → (numbersOf (d .answer) .number ≡ 0 → ⊥)
-        → (numbersOf (d .answer) ≡ numbers (numbersOf (d .answer) .number) 0 0 0) × (changed t (d .change) ≡ t)
-    go d (inl e) refuses = absurd (refuses e)
-    go d (inr (zeros, stays)) refuses = (zeros, ap (changed t) stays)
+    rightful : (a : Ask) → Kept (decideOn t a)
+    rightful (Open o) = by-test (settingsInRange o) (λ e. rw (open-taken o e) (inl refl)) (λ e. rw (open-refused o e) (inr (refl, refl)))
+    rightful (OnTable c) = on-table c
+
+    kept : Kept (decided opened t r)
+    kept =
+        by-test (outOfTurn opened (r .ask))
+        (λ e. rw e (inr (refl, refl)))
+        (λ e. by-test (mayAsk (r .caller) (r .ask)) (λ may. rw (e, may) (rightful (r .ask))) (λ lacks. rw (e, lacks) (inr (refl, refl))))
+
+    keeps : (d : Decision) → Kept d → (numbersOf (d .answer) .number ≡ 0 → ⊥)
+        → (numbersOf (d .answer) ≡ record { number = numbersOf (d .answer) .number; first = 0; second = 0; third = 0 }) × (changed t (d .change) ≡ t)
+    keeps d (inl e) refuses = absurd (refuses e)
+    keeps d (inr (zeros, stays)) refuses = (zeros, ap (changed t) stays)
 
 -- ---- out of turn
 
@@ -164,9 +179,16 @@ module _ (t : Table) (e : Entry) where
 
         -- "behind the last train, standing; end = head, order brake, level B, not held, and a starting request number for this stay"
         pub enter-accepted : (k : Figures) → Described (e .load) (e .length) k → 6096000 * e .length ≤ e .head → InLimit (limitAt t (t .count)) (e .head)
-            → let x =
-            trainOf (e .id) (e .length) k (record { head = e .head; speed = 0; level = k .full }) Brake
-            (record { end = e .head; start = e .start; number = e .start; length = 0 }) (record { held = false; penalty = false }) in
+            → let x : Train =
+            record {
+              id = e .id;
+              length = e .length;
+              figures = k;
+              motion = record { head = e .head; speed = 0; level = k .full };
+              order = Brake;
+              authority = record { end = e .head; start = e .start; number = e .start; length = 0 };
+              marks = record { held = false; penalty = false };
+            } in
             step t (Enter e) ≡ outcome (Accepted (Entered (k .full) (k .growth) (e .head))) (changed t (Add x))
         unfolding stepsOf
         enter-accepted k d long near =

@@ -156,10 +156,10 @@ module _ (k : Figures) (l : Maxima) (goal : ℕ) (m : Motion) where
 -- ---- the count
 
 -- "1 + B/j + V/B, both quotients rounded up"
-pub counted : (k : Figures) (ceiling growing slowing : ℕ) → Sound k → RoundedUp growing (k .full) (k .growth) → RoundedUp slowing ceiling (k .full)
+pub cycles-counted : (k : Figures) (ceiling growing slowing : ℕ) → Sound k → RoundedUp growing (k .full) (k .growth) → RoundedUp slowing ceiling (k .full)
     → cyclesToStand k ceiling ≡ growing + slowing
 unfolding cyclesToStand
-counted k ceiling growing slowing s g h =
+cycles-counted k ceiling growing slowing s g h =
     let one = rounded-once growing (k .full) (k .growth) (s .growth-positive) g in
     let two = rounded-once slowing ceiling (k .full) (omega arith) h in
     omega arith

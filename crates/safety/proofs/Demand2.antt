@@ -5,12 +5,13 @@
 -- Assumes nothing.
 use Prim.Native.Nat.{ℕ, suc, _+_, _*_, _≤_, _<_}
 use mathlib.Core.Bool.{Bool, true, false}
-use mathlib.Core.List.{List}
+use mathlib.Core.List.{List, _∷_, _++_}
 use mathlib.Core.Logic.{by-cases, _⊎_, inl, inr, _↔_}
 use mathlib.Core.Option.{some}
 use mathlib.Core.Path.{_≡_, refl, sym, ap, _∙_}
 use native.Mathlib.Decide.{decLt}
 use native.Mathlib.Omega.{arith}
+use lib.ListN.{length, length-append}
 use Rattle.logic.proofs.Tests.{by-test}
 use Rattle.brake.specs.Consist.{Sound}
 use Rattle.brake.proofs.Sentences.{Described, figures-exactly}
@@ -31,11 +32,11 @@ use Rattle.calls.specs.declared.Values.the-variants.{Ordered, Extended, Zeros}
 use Rattle.train.specs.declared.Authority.{Authority}
 use Rattle.train.specs.declared.Train.{Train}
 use Rattle.train.specs.Record.{same}
-use Rattle.train.specs.Report.{worstOf, reachOf, orderAfter, isPenalty}
+use Rattle.train.specs.Report.{orderAfter, isPenalty}
 use Rattle.train.proofs.Track.{InLimit}
 use Rattle.train.specs.Ranges.{WorksWith}
 use Rattle.train.proofs.Records.{free-order}
-use Rattle.train.proofs.Sentences.{report-exactly, penalty-order, held-order, as-usual, free-drives, free-brakes, mark-exactly}
+use Rattle.train.proofs.Sentences.{Allows, report-exactly, levelFound, penalty-order, held-order, as-usual, free-drives, free-brakes, mark-exactly}
 use Rattle.acts.proofs.Sentences.{report-9, report-answered, WellFormed, extension-10, extension-11, extension-12, extension-repeated, extension-13, extension-taken, call-back-moves, call-back-14, hold-marks, lift-unmarks}
 use Rattle.table.specs.declared.Table.{Table}
 use Rattle.table.specs.declared.Change.the-variants.{Put}
@@ -45,8 +46,10 @@ use Rattle.table.proofs.Sentences.{limit-in-front, limit-further-back}
 use Rattle.line.specs.Step.{outcome, openStep}
 use Rattle.line.proofs.Steps.{step}
 use Rattle.line.proofs.Rules.{own-step}
-use Rattle.safety.specs.History.{Deed, after}
+use Rattle.safety.specs.History.{Deed, history, after, Told, told}
 use Rattle.safety.specs.Claim.{recordOf}
+use Rattle.safety.proofs.Line.{lined-among}
+use Rattle.safety.proofs.Tables.{agrees-count, agrees-train}
 use Rattle.safety.proofs.Calls.{agrees}
 use Rattle.safety.proofs.Bounds.{tells, always-computable, report-judged}
 
@@ -64,12 +67,18 @@ module _ (o : Opening) (t : Table) (opened : openStep o ≡ outcome (Accepted Ze
 
   -- ---- "Brake force, application time ... equal the definitions"
 
-  -- of each train on the line, for the load class and the length that it entered with
-  pub figures : (i : ℕ) → i < now .count → (load : ℕ) × Described load (trainAt now i .length) (trainAt now i .figures)
+  -- of each train that the calls tell of: it is kept with the length that it entered with, and with the figures of that length and of the load
+  -- class that it entered with
+  pub figures : (ahead : List Told) (y : Told) (others : List Told) → told o (history t ds) .trains ≡ ahead ++ (y ∷ others)
+      → let x = trainAt now (length ahead) in (x .length ≡ y .entry .length) × Described (y .entry .load) (y .entry .length) (x .figures)
   unfolding recordOf
-  figures i below =
-      let p = tells o t opened ds i below in
-      rw (p .here) (p .train .entry .load, figures-exactly _ _ _ .0 (p .steady .consist))
+  figures ahead y others e =
+      let A = agrees o t opened ds in
+      let l = told o (history t ds) in
+      let count = agrees-count o l now A ∙ ap length e ∙ length-append ahead (y ∷ others) in
+      let (there, consist) = lined-among (now .settings) _ ahead y others (rw e at (A .lined)) in
+      let here = (rw e at (agrees-train o l now A (length ahead) (omega arith))) ∙ there in
+      rw here (refl, figures-exactly _ _ _ .0 consist)
 
   -- ---- a train on the line
 
@@ -88,7 +97,7 @@ module _ (o : Opening) (t : Table) (opened : openStep o ≡ outcome (Accepted Ze
     module _ (r : Reading) where
       -- neither backward nor worse than the order allows
       abbrev Allowed : Type 0
-      Allowed = (x .motion .head ≤ r .head) × (r .head ≤ worstOf x .head) × (r .speed ≤ worstOf x .speed)
+      Allowed = Allows (x .figures) (x .motion) (x .order) r
 
       -- 9
       pub report-refused : (Allowed → ⊥) → step now (Own id (Report r)) ≡ outcome (Refused NotAllowed) now
@@ -96,7 +105,7 @@ module _ (o : Opening) (t : Table) (opened : openStep o ≡ outcome (Accepted Ze
 
       -- "a brake order starts at the level found after the last cycle"
       abbrev m : Motion
-      m = record { head = r .head; speed = r .speed; level = worstOf x .level }
+      m = record { head = r .head; speed = r .speed; level = levelFound (x .figures) (x .motion) (x .order) }
 
       abbrev given : Order
       given = orderAfter (now .settings) x m
@@ -206,10 +215,11 @@ module _ (o : Opening) (t : Table) (opened : openStep o ≡ outcome (Accepted Ze
             extend-accepted within = own-step now id i found (Extend q) _ (extension-taken (now .settings) (limitAt now i) x q a above new within)
 
     -- 14, and "the end becomes a named place from reach to end, both included"
-    pub call-back-refused : (place : ℕ) → (place < reachOf x) ⊎ (x .authority .end < place) → step now (Own id (CallBack place)) ≡ outcome (Refused BadPlace) now
+    pub call-back-refused : (place : ℕ) → (place < reach (x .figures) (x .motion) (x .order)) ⊎ (x .authority .end < place)
+        → step now (Own id (CallBack place)) ≡ outcome (Refused BadPlace) now
     call-back-refused place out = own-step now id i found (CallBack place) _ (call-back-14 (now .settings) (limitAt now i) x place out)
 
-    pub call-back-accepted : (place : ℕ) → reachOf x ≤ place → place ≤ x .authority .end
+    pub call-back-accepted : (place : ℕ) → reach (x .figures) (x .motion) (x .order) ≤ place → place ≤ x .authority .end
         → let nearer : Authority = record { end = place; start = x .authority .start; number = x .authority .number; length = x .authority .length } in
         step now (Own id (CallBack place)) ≡ outcome (Accepted Zeros) (changed now (Put i (same x (x .motion) (x .order) nearer (x .marks))))
     call-back-accepted place low high =

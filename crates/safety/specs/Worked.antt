@@ -124,6 +124,10 @@ abbrev pub heldCount : List Told → ℕ
 heldCount [] = 0
 heldCount (x ∷ xs) = countedReports sessionLine x
 
+-- its head is one step short of its length, 2,345 × 6,096,000: its rear would lie before the line
+abbrev pub rearOffTheLine : List Event
+rearOffTheLine = said (enter 7 14295119999 2345 1 0) 133303 263 14295119999 ∷ []
+
 -- its head is past its end, by one step
 abbrev pub headPastEnd : List Event
 headPastEnd = loadedEnters ∷ said (report 7 14295120001 0) 2 0 14295120001 ∷ []

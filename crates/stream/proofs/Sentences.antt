@@ -7,24 +7,23 @@ use mathlib.Core.List.{List, [], _∷_, _++_}
 use lib.Dec.{eqb}
 use lib.ListN.{replicate}
 use mathlib.Core.Path.{_≡_, refl, ap, _∙_}
-use Rattle.logic.proofs.Tests.{by-test}
+use borrow.Author.Tests.{ne-eqb}
 use Rattle.calls.specs.declared.Opening.{Opening}
 use Rattle.calls.specs.declared.Call.{Call}
-use Rattle.calls.specs.declared.Ask.{Ask}
 use Rattle.calls.specs.declared.Ask.the-variants.{Open, OnTable}
 use Rattle.calls.specs.declared.RequestRead.{RequestRead}
 use Rattle.calls.specs.declared.RequestRead.the-variants.{Read, Unreadable}
 use Rattle.calls.specs.Answers.{numbers, numbersOf}
 use Rattle.calls.specs.Requests.{request}
-use Rattle.rights.specs.Rights.{dispatcher, mayAsk}
+use Rattle.rights.specs.Rights.{mayAsk}
 use Rattle.rights.proofs.Rights.{Right}
-use Rattle.train.specs.Ranges.{settingsInRange, settingsOf}
+use Rattle.train.specs.Ranges.{settingsOf}
 use Rattle.train.proofs.Sentences.{Offers}
 use Rattle.table.specs.declared.Table.{Table}
 use Rattle.table.specs.Table.{emptyTable}
 use Rattle.line.specs.declared.Outcome.{Outcome}
 use Rattle.line.specs.Decide.{decideOn, decided}
-use Rattle.line.proofs.Steps.{step, open-taken, open-refused}
+use Rattle.line.proofs.Steps.{step}
 use Rattle.line.proofs.Rights.{call-16, open-16, call-rightful}
 use Rattle.line.proofs.Rules.{refusal-keeps, call-2, open-2, open-3, open-accepted}
 use Rattle.wire.specs.Format.{lineRead, left, text, textOf, answerText}
@@ -95,26 +94,17 @@ module _ (l : List ℕ) (t : Table) where
   Leaves s r = (r .answer .number ≡ 0 → ⊥) → r ≡ refusal (r .answer .number) s
 
   pub refusal-leaves : (b : Bool) → Leaves (session b t) (answered (session b t) l)
-  unfolding lineDecision decided decideOn mayAsk
+  unfolding lineDecision
   refusal-leaves b = go b (lineRead l)
     where
-      before : (n : ℕ) (a : Ask) → Leaves (session false t) (repliedTo (session false t) (Read (request n a)))
-      before n (OnTable c) refuses = refl
-      before n (Open o) refuses =
-          by-test (eqb n dispatcher)
-          (λ right.
-          by-test (settingsInRange o)
-          (λ e. absurd (refuses (rw (right, open-taken o e))))
-          (λ e. rw (right, open-refused o e)))
-          (λ lacks. rw lacks)
-
       go : (b : Bool) (r : RequestRead) → Leaves (session b t) (repliedTo (session b t) r)
       go true Unreadable refuses = refl
       go false Unreadable refuses = refl
-      go false (Read r) refuses = before (r .caller) (r .ask) refuses
-      go true (Read r) refuses =
-          let (zeros, stays) = refusal-keeps t r refuses in
-          λ z. record { answer = zeros z; session = session true (stays z) }
+      go true (Read r) refuses = let (zeros, stays) = refusal-keeps true t r refuses in λ z. record { answer = zeros z; session = session true (stays z) }
+      go false (Read r) refuses =
+          let (zeros, stays) = refusal-keeps false t r refuses in
+          let not-opened = ne-eqb _ 0 refuses in
+          λ z. record { answer = zeros z; session = session (not-opened z) (stays z) }
 
 -- "a last line without its line feed is answer 1": whatever stands in it. Where nothing follows the last line feed, nothing is answered.
 abbrev zeroText : List ℕ

@@ -9,15 +9,14 @@ use Rattle.calls.specs.declared.Reading.{Reading}
 use Rattle.train.specs.declared.Settings.{Settings}
 use Rattle.train.specs.declared.Train.{Train}
 use Rattle.train.specs.Report.{worstOf, allowed, motionAfter, reportAllowed}
-use Rattle.train.proofs.Records.{report-passed}
-use Rattle.train.proofs.Sentences.{report-exactly}
+use Rattle.train.proofs.Records.{within-worst, report-passed}
 
 pub report-allowed : (σ : Settings) (x : Train) (r : Reading) → not (reportAllowed σ x r) ≡ false → allowed x r ≡ true
 report-allowed σ x r e = report-passed σ x r (not-false _ e) .allows
 
 module _ (x : Train) (r : Reading) (e : allowed x r ≡ true) where
   pub allowed-head : x .motion .head ≤ r .head
-  allowed-head = report-exactly x r .0 e .0
+  allowed-head = within-worst x r .0 e .0
 
   pub allowed-no-worse : NoWorse (motionAfter x r) (worstOf x)
-  allowed-no-worse = let (onward, near, slow) = report-exactly x r .0 e in record { head = near; speed = slow; level = refl }
+  allowed-no-worse = let (onward, near, slow) = within-worst x r .0 e in record { head = near; speed = slow; level = refl }

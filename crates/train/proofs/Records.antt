@@ -1,16 +1,16 @@
 -- Laws of the settings and of one train record: what an opening and an entering give, what a report is judged by, and the order that it
 -- gets.
 -- Assumes nothing.
-use Prim.Native.Nat.{ℕ}
+use Prim.Native.Nat.{_≤_}
 use mathlib.Core.Bool.{true, false, _&&_}
-use mathlib.Core.Logic.{inl, inr}
+use mathlib.Core.Logic.{inl, inr, _↔_}
 use mathlib.Core.Path.{_≡_, refl}
-use native.Mathlib.Omega.{arith}
+use lib.Dec.{leb}
+use borrow.Author.Tests.{le-leb, leb-true}
 use Rattle.logic.proofs.Tests.{by-test, both}
 use Rattle.brake.specs.Consist.{figuresOf}
 use Rattle.motion.specs.declared.Motion.{Motion}
-use Rattle.motion.specs.declared.Order.{Order}
-use Rattle.motion.specs.declared.Order.the-variants.{Drive, Brake}
+use Rattle.motion.specs.declared.Order.the-variants.{Brake}
 use Rattle.motion.specs.Orders.{orderCap, orderFor}
 use Rattle.motion.specs.Bounds.{Bounded}
 use Rattle.motion.proofs.Bounds.{bounds-tested}
@@ -22,7 +22,7 @@ use Rattle.train.specs.declared.Settings.{Settings}
 use Rattle.train.specs.declared.Train.{Train}
 use Rattle.train.specs.Ranges.{settingsOf, WorksWith}
 use Rattle.train.specs.Record.{figuresFor}
-use Rattle.train.specs.Report.{allowed, motionAfter, goalOf, moves, mustBrake, orderAfter, computable, reportAllowed}
+use Rattle.train.specs.Report.{worstOf, allowed, motionAfter, goalOf, moves, mustBrake, orderAfter, computable, reportAllowed}
 
 -- the table works with the numbers that were opened
 pub settings-given : (o : Opening) → WorksWith o (settingsOf o)
@@ -33,6 +33,21 @@ pub figures-entered : (σ : Settings) (e : Entry) → figuresFor σ e ≡ figure
 figures-entered σ e = refl
 
 -- ---- a report
+
+-- a report is allowed where it is within the worst case of the last order
+pub within-worst : (x : Train) (r : Reading)
+    → (allowed x r ≡ true) ↔ ((x .motion .head ≤ r .head) × (r .head ≤ worstOf x .head) × (r .speed ≤ worstOf x .speed))
+unfolding allowed
+within-worst x r = (only, exactly)
+  where
+    only : allowed x r ≡ true → (x .motion .head ≤ r .head) × (r .head ≤ worstOf x .head) × (r .speed ≤ worstOf x .speed)
+    only e =
+        let last = both (leb (x .motion .head) (r .head) && leb (r .head) (worstOf x .head)) (leb (r .speed) (worstOf x .speed)) e in
+        let first = both (leb (x .motion .head) (r .head)) (leb (r .head) (worstOf x .head)) (last .0) in
+        (leb-true _ _ (first .0), leb-true _ _ (first .1), leb-true _ _ (last .1))
+
+    exactly : (x .motion .head ≤ r .head) × (r .head ≤ worstOf x .head) × (r .speed ≤ worstOf x .speed) → allowed x r ≡ true
+    exactly (onward, near, slow) = rw (le-leb _ _ onward, le-leb _ _ near, le-leb _ _ slow)
 
 pub computable-bounded : (x : Train) → computable x ≡ true → Bounded (x .figures) (x .motion) (orderCap (x .order))
 unfolding computable

@@ -2,36 +2,37 @@
 -- definitions test and choose. A wrong definition is refused here, whatever the code.
 -- Assumes nothing.
 use Prim.Native.Nat.{ℕ, _+_, _*_, _≤_, _<_}
-use mathlib.Core.Bool.{true, false, _&&_}
+use mathlib.Core.Bool.{true, false}
 use mathlib.Core.Logic.{_⊎_, inl, inr, _↔_}
 use mathlib.Core.Option.{none, some}
-use mathlib.Core.Path.{_≡_, refl}
+use mathlib.Core.Path.{_≡_, refl, ap}
 use native.Mathlib.Omega.{arith}
-use lib.Dec.{leb}
-use borrow.Author.Tests.{le-leb, leb-true, ne-eqb, eqb-false, not-true}
+use borrow.Author.Tests.{ne-eqb, eqb-false, not-true}
 use Rattle.logic.proofs.Tests.{by-test, both}
 use Rattle.ranges.specs.Ranges.{lineEndInRange, safetyInRange, ceilingInRange, tractionInRange}
 use Rattle.ranges.proofs.Sentences.{line-end, safety-distance, speed-ceiling, greatest-traction}
 use Rattle.motion.specs.declared.Motion.{Motion}
 use Rattle.motion.specs.declared.Order.{Order}
 use Rattle.motion.specs.declared.Order.the-variants.{Drive, Brake}
-use Rattle.motion.specs.Motion.{stands, stoppingDistance}
-use Rattle.motion.specs.Orders.{isBrake}
+use Rattle.motion.specs.Motion.{brakeTravel, brakeSpeed, nextLevel, driveTravel, driveSpeed, stands, stoppingDistance}
+use Rattle.motion.specs.Orders.{isBrake, worstCase, reach}
 use Rattle.motion.proofs.Sentences.{brake-tested}
 use Rattle.motion.proofs.OrderSentences.{GreatestCap, drive-exactly, brake-at-zero}
 use Rattle.brake.specs.declared.Figures.{Figures}
 use Rattle.brake.specs.Consist.{Sound}
 use Rattle.calls.specs.declared.Opening.{Opening}
+use Rattle.calls.specs.declared.Entry.{Entry}
 use Rattle.calls.specs.declared.Reading.{Reading}
 use Rattle.train.specs.declared.Settings.{Settings}
 use Rattle.train.specs.declared.Authority.{Authority}
+use Rattle.train.specs.declared.Marks.{Marks}
 use Rattle.train.specs.declared.Train.{Train}
 use Rattle.train.specs.Ranges.{settingsInRange}
-use Rattle.train.specs.Record.{freshAuthority, endingAt}
+use Rattle.train.specs.Record.{freshAuthority, endingAt, entering, same}
 use Rattle.train.specs.Track.{stepsOf, limitBehind}
-use Rattle.train.specs.Report.{worstOf, allowed, moves, mustBrake, orderAfter, isPenalty, ordered}
+use Rattle.train.specs.Report.{reachOf, allowed, motionAfter, moves, mustBrake, orderAfter, isPenalty, ordered}
 use Rattle.train.proofs.Track.{InLimit, limit-first, in-behind, behind-in}
-use Rattle.train.proofs.Records.{held-brakes, penalty-brakes, free-order}
+use Rattle.train.proofs.Records.{within-worst, held-brakes, penalty-brakes, free-order}
 
 -- ---- the settings
 
@@ -84,23 +85,63 @@ fresh-authority h s = refl
 pub another-end : (a : Authority) (place : ℕ) → endingAt a place ≡ record { end = place; start = a .start; number = a .number; length = a .length }
 another-end a place = refl
 
+-- ---- the record
+
+-- Enter: "standing; end = head, order brake, level B, not held, and a starting request number for this stay"; "Length is the entered one"
+pub entered : (e : Entry) (k : Figures) → entering e k
+    ≡ record {
+      id = e .id;
+      length = e .length;
+      figures = k;
+      motion = record { head = e .head; speed = 0; level = k .full };
+      order = Brake;
+      authority = record { end = e .head; start = e .start; number = e .start; length = 0 };
+      marks = record { held = false; penalty = false };
+    }
+entered e k = refl
+
+-- id, length and figures stay those of the entering
+pub same-train : (x : Train) (m : Motion) (o : Order) (a : Authority) (ms : Marks) → same x m o a ms
+    ≡ record { id = x .id; length = x .length; figures = x .figures; motion = m; order = o; authority = a; marks = ms }
+same-train x m o a ms = refl
+
 -- ---- reports
 
--- "It is allowed if the head is not behind the last one nor beyond the worst case of the last order, and the speed is at most that
--- worst case."
-pub report-exactly : (x : Train) (r : Reading)
-    → (allowed x r ≡ true) ↔ ((x .motion .head ≤ r .head) × (r .head ≤ worstOf x .head) × (r .speed ≤ worstOf x .speed))
-unfolding allowed
-report-exactly x r = (only, exactly)
-  where
-    only : allowed x r ≡ true → (x .motion .head ≤ r .head) × (r .head ≤ worstOf x .head) × (r .speed ≤ worstOf x .speed)
-    only e =
-        let last = both (leb (x .motion .head) (r .head) && leb (r .head) (worstOf x .head)) (leb (r .speed) (worstOf x .speed)) e in
-        let first = both (leb (x .motion .head) (r .head)) (leb (r .head) (worstOf x .head)) (last .0) in
-        (leb-true _ _ (first .0), leb-true _ _ (first .1), leb-true _ _ (last .1))
+-- What an order allows a report. "It is allowed if the head is not behind the last one nor beyond the worst case of the last order, and the
+-- speed is at most that worst case": driven with cap c, it travels 2×v + c and ends at v + c; braked, it travels and ends as a braked cycle.
+abbrev pub Allows : Figures → Motion → Order → Reading → Type 0
+Allows k m (Drive c) r = (m .head ≤ r .head) × (r .head ≤ m .head + (2 * m .speed + c)) × (r .speed ≤ m .speed + c)
+Allows k m Brake r = (m .head ≤ r .head) × (r .head ≤ m .head + brakeTravel k (m .speed) (m .level)) × (r .speed ≤ brakeSpeed k (m .speed) (m .level))
 
-    exactly : (x .motion .head ≤ r .head) × (r .head ≤ worstOf x .head) × (r .speed ≤ worstOf x .speed) → allowed x r ≡ true
-    exactly (onward, near, slow) = rw (le-leb _ _ onward, le-leb _ _ near, le-leb _ _ slow)
+pub report-exactly : (x : Train) (r : Reading) → (allowed x r ≡ true) ↔ Allows (x .figures) (x .motion) (x .order) r
+unfolding driveTravel driveSpeed
+report-exactly x r = (λ e. only (x .figures) (x .motion) (x .order) (within-worst x r .0 e), λ so. within-worst x r .1 (exactly (x .figures) (x .motion) (x .order) so))
+  where
+    only : (k : Figures) (m : Motion) (o : Order)
+        → (m .head ≤ r .head) × (r .head ≤ worstCase k m o .head) × (r .speed ≤ worstCase k m o .speed) → Allows k m o r
+    only k m (Drive c) h = h
+    only k m Brake h = h
+
+    exactly : (k : Figures) (m : Motion) (o : Order)
+        → Allows k m o r → (m .head ≤ r .head) × (r .head ≤ worstCase k m o .head) × (r .speed ≤ worstCase k m o .speed)
+    exactly k m (Drive c) h = h
+    exactly k m Brake h = h
+
+-- "A brake order starts at the level found after the last cycle: 0 after a driven one, the next level after a braked one"
+abbrev pub levelFound : Figures → Motion → Order → ℕ
+levelFound k m (Drive c) = 0
+levelFound k m Brake = nextLevel k (m .level)
+
+pub motion-found : (x : Train) (r : Reading) → motionAfter x r ≡ record { head = r .head; speed = r .speed; level = levelFound (x .figures) (x .motion) (x .order) }
+motion-found x r = ap (λ (level : ℕ). record { head = r .head; speed = r .speed; level = level }) (found (x .figures) (x .motion) (x .order))
+  where
+    found : (k : Figures) (m : Motion) (o : Order) → worstCase k m o .level ≡ levelFound k m o
+    found k m (Drive c) = refl
+    found k m Brake = refl
+
+-- "Reach is the worst-case head ... under that order": the train's own, in its last motion (motion/proofs/OrderSentences: reach-driven, reach-braked)
+pub reach-under : (x : Train) → reachOf x ≡ reach (x .figures) (x .motion) (x .order)
+reach-under x = refl
 
 -- ---- orders
 

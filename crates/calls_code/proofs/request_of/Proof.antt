@@ -1,7 +1,7 @@
 -- `calls_code::request_of` meets its contract.
 -- Assumes nothing.
 use mathlib.Core.Path.{sym, _∙_}
-use Rattle.calls.proofs.Requests.{code-open, code-enter, code-report, code-extend, code-call-back, code-hold, code-lift, code-take-off, code-none}
+use Rattle.calls_code.proofs.Requests.{code-open, code-enter, code-report, code-extend, code-call-back, code-hold, code-lift, code-take-off, code-none}
 use borrow.Author.Needs.{needs}
 use Rattle.calls_code.proofs.request_of.Statement.{statement}
 use Rattle.calls_code.proofs.request_of.Tie as tie

@@ -7,7 +7,7 @@ use lib.ListN.{length, take}
 use borrow.Author.Needs.{needs}
 use borrow.Author.Tests.{eq-eqb, ne-eqb}
 use Rattle.calls.specs.Requests.{zeroFrom, callerPlace}
-use Rattle.calls.proofs.Requests.{zero-next, zero-end}
+use Rattle.calls_code.proofs.Requests.{zero-next, zero-end}
 use Rattle.calls_code.proofs.zero_from.Statement.{statement}
 use Rattle.calls_code.proofs.zero_from.Tie as tie
 

@@ -1,25 +1,20 @@
--- Laws of reading a row of numbers: the unused ones, the codes, one law for each and no other, and the caller.
+-- Laws of reading a row of numbers, as the code reads it: the unused ones one by one, and the codes.
 -- Assumes nothing.
 use Prim.Native.Nat.{ℕ, _+_, _≤_, _<_}
 use mathlib.Core.Bool.{true, _&&_}
 use mathlib.Core.List.{List}
 use mathlib.Core.Path.{_≡_, refl}
-use mathlib.Core.Logic.{by-cases}
-use native.Mathlib.Decide.{ℕ-discrete}
 use native.Mathlib.Numerals.{add-one}
 use native.Mathlib.Omega.{arith}
 use lib.Dec.{eqb}
 use lib.ListN.{length, take, drop-of-length-le}
 use lib.Seq.{drop-cons, length-take-le, getD-take}
 use borrow.Author.Tests.{ne-eqb}
-use Rattle.logic.proofs.Tests.{by-test}
 use Rattle.calls.specs.declared.Act.the-variants.{Report, Extend, CallBack, Hold, Lift}
 use Rattle.calls.specs.declared.Call.the-variants.{Enter, Own, TakeOff}
-use Rattle.calls.specs.declared.Ask.{Ask}
 use Rattle.calls.specs.declared.Ask.the-variants.{Open, OnTable}
-use Rattle.calls.specs.declared.RequestRead.{RequestRead}
-use Rattle.calls.specs.declared.RequestRead.the-variants.{Read, Unreadable}
+use Rattle.calls.specs.declared.RequestRead.the-variants.{Unreadable}
 use Rattle.calls.specs.Requests.{at, allZero, zeroFrom, callerPlace, readAs, openingIn, entryIn, readingIn, extensionIn, requestOf}
 
 -- ---- unused numbers
 
@@ -89,32 +84,3 @@ module _ (row : List ℕ) where
         ne-eqb (at row 0) 8 eight,
         requestOf,
       )
-
--- ---- the caller
-
--- what is read is called by n; what is unreadable, by nobody
-abbrev pub Calls : ℕ → RequestRead → Type 0
-Calls n (Read r) = r .caller ≡ n
-Calls n Unreadable = Unit {0}
-
-module _ (row : List ℕ) where
-  read-caller : (n : ℕ) (a : Ask) → Calls (at row 6) (readAs n row a)
-  unfolding readAs
-  read-caller n a = by-test (zeroFrom n (take callerPlace row)) (λ e. rw e refl) (λ e. rw e tt)
-
-  -- "the caller as a sixth number": whatever the call, and whatever the number
-  pub sixth-calls : Calls (at row 6) (requestOf row)
-  sixth-calls =
-      code 1 _ (code-open row) (read-caller 5 _) (λ one.
-      code 2 _ (code-enter row) (read-caller 6 _) (λ two.
-      code 3 _ (code-report row) (read-caller 4 _) (λ three.
-      code 4 _ (code-extend row) (read-caller 4 _) (λ four.
-      code 5 _ (code-call-back row) (read-caller 3 _) (λ five.
-      code 6 _ (code-hold row) (read-caller 2 _) (λ six.
-      code 7 _ (code-lift row) (read-caller 2 _) (λ seven.
-      code 8 _ (code-take-off row) (read-caller 2 _) (λ eight.
-      rw (code-none row one two three four five six seven eight) tt))))))))
-    where
-      code : (k : ℕ) (r : RequestRead) → (at row 0 ≡ k → requestOf row ≡ r) → Calls (at row 6) r
-          → ((at row 0 ≡ k → ⊥) → Calls (at row 6) (requestOf row)) → Calls (at row 6) (requestOf row)
-      code k r reads calls others = by-cases (ℕ-discrete (at row 0) k) (λ e. rw (reads e) calls) others
