@@ -13,13 +13,22 @@ use Rattle.logic.proofs.Tests.{by-test, both}
 use Rattle.motion.specs.declared.Order.the-variants.{Drive, Brake}
 use Rattle.calls.specs.declared.Act.the-variants.{Report, Extend, CallBack, Hold, Lift}
 use Rattle.calls.specs.declared.Call.the-variants.{Enter, Own, TakeOff}
+use Rattle.calls.specs.declared.Ask.{Ask}
 use Rattle.calls.specs.declared.Ask.the-variants.{Open, OnTable}
 use Rattle.calls.specs.declared.Request.{Request}
 use Rattle.calls.specs.declared.RequestRead.the-variants.{Read, Unreadable}
 use Rattle.calls.specs.declared.Answer.the-variants.{Accepted}
 use Rattle.calls.specs.declared.Values.the-variants.{Entered, Ordered, Extended, Zeros}
-use Rattle.calls.specs.Answers.{numbersOf}
-use Rattle.calls.specs.Requests.{allZero, readAs, requestOf}
+use Rattle.calls.specs.Answers.{numbers, numbersOf}
+use Rattle.calls.specs.Requests.{allZero, request, readAs, requestOf}
+
+-- ---- what the laws of other crates speak with
+
+pub request-made : (n : ℕ) (a : Ask) → request n a ≡ record { caller = n; ask = a }
+request-made n a = refl
+
+pub numbers-made : (n a b c : ℕ) → numbers n a b c ≡ record { number = n; first = a; second = b; third = c }
+numbers-made n a b c = refl
 
 -- ---- rows
 

@@ -24,8 +24,11 @@ use Rattle.calls.specs.declared.Call.the-variants.{Enter, Own, TakeOff}
 use Rattle.calls.specs.declared.Ask.{Ask}
 use Rattle.calls.specs.declared.Ask.the-variants.{Open, OnTable}
 use Rattle.calls.specs.declared.Request.{Request}
+use Rattle.calls.specs.declared.Refusal.{Refusal}
 use Rattle.calls.specs.declared.Refusal.the-variants.{OutOfTurn, BadSetting, BadEntry, OnLine, LineFull, BadHead, NoTrain, NotLeaving}
+use Rattle.calls.specs.declared.Answer.{Answer}
 use Rattle.calls.specs.declared.Answer.the-variants.{Accepted, Refused}
+use Rattle.calls.specs.declared.Values.{Values}
 use Rattle.calls.specs.declared.Values.the-variants.{Entered, Zeros}
 use Rattle.calls.specs.Answers.{numbersOf}
 use Rattle.calls.specs.Requests.{request}
@@ -43,6 +46,7 @@ use Rattle.train.proofs.Records.{settings-given}
 use Rattle.train.proofs.Sentences.{Offers, settings-exactly}
 use Rattle.acts.proofs.Sentences.{leaves-exactly}
 use Rattle.table.specs.declared.Table.{Table}
+use Rattle.table.specs.declared.Change.{Change}
 use Rattle.table.specs.declared.Change.the-variants.{Stay, Add, DropFirst, Anew}
 use Rattle.table.specs.Table.{placeOf, trainAt, limitAt, changed}
 use Rattle.table.proofs.Places.{FoundAt}
@@ -50,6 +54,17 @@ use Rattle.line.specs.declared.Decision.{Decision}
 use Rattle.line.specs.Decide.{refused, accepted, openDecision, enterDecision, rulingAt, decideOn, outOfTurn, decided}
 use Rattle.line.specs.Step.{outcome, carriedOut, requested, openStep}
 use Rattle.line.proofs.Steps.{step, any-call, open-taken, open-refused, open-made, enter-unfit, enter-fit, enter-bad, enter-known, enter-full, enter-short, enter-beyond, enter-taken, own-unknown, take-off-unknown, placed, own-found, take-off-refused, take-off-taken}
+
+-- ---- what these laws speak with
+
+pub outcome-made : (a : Answer) (t : Table) → outcome a t ≡ record { answer = a; table = t }
+outcome-made a t = refl
+
+pub refused-made : (r : Refusal) → refused r ≡ record { answer = Refused r; change = Stay }
+refused-made r = refl
+
+pub accepted-made : (v : Values) (c : Change) → accepted v c ≡ record { answer = Accepted v; change = c }
+accepted-made v c = refl
 
 -- ---- a refusal gives its number and zeros, and the whole table stays
 

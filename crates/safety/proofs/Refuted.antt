@@ -17,7 +17,7 @@ use Rattle.calls.specs.declared.Opening.{Opening}
 use Rattle.train.specs.Track.{stepsOf}
 use Rattle.safety.specs.History.{isAccepted, toldAct, toldCall, toldBy, Told, told, rearOf}
 use Rattle.safety.specs.Claim.{countedReports, Claim}
-use Rattle.safety.specs.Worked.{sessionLine, loadedEnters, heldCount, rearOffTheLine, headPastEnd, endTooNear, endOffTheLine, overlapOfTwo, heldAndMoving, brakedAndMoving, figuresMadeUp}
+use Rattle.safety.specs.Worked.{sessionLine, loadedEnters, heldCount, rearOffTheLine, headPastEnd, sameCapEachCycle, endTooNear, endOffTheLine, overlapOfTwo, heldAndMoving, brakedAndMoving, figuresMadeUp}
 
 pub counted : heldCount (told sessionLine (loadedEnters ∷ []) .trains) ≡ 710
 unfolding ceilDiv cyclesToStand isAccepted toldCall toldBy told
@@ -35,6 +35,11 @@ not-above n h = omega arith
 pub head-refuted : Claim sessionLine headPastEnd → ⊥
 unfolding Claim isAccepted toldAct toldCall toldBy told
 head-refuted claim = not-above 14295120000 (claim .0 .head-within-end)
+
+-- a worthless controller, "with a cap above 0"
+pub same-cap-refuted : Claim sessionLine sameCapEachCycle → ⊥
+unfolding Claim isAccepted toldAct toldCall toldBy told
+same-cap-refuted claim = not-above 14295120000 (claim .0 .head-within-end)
 
 pub rear-refuted : Claim sessionLine rearOffTheLine → ⊥
 unfolding Claim isAccepted toldCall toldBy told stepsOf

@@ -132,6 +132,10 @@ rearOffTheLine = said (enter 7 14295119999 2345 1 0) 133303 263 14295119999 ∷ 
 abbrev pub headPastEnd : List Event
 headPastEnd = loadedEnters ∷ said (report 7 14295120001 0) 2 0 14295120001 ∷ []
 
+-- the same cap above 0 at each report, also at its end: the train reports what it was allowed, and is past its end
+abbrev pub sameCapEachCycle : List Event
+sameCapEachCycle = loadedEnters ∷ said (report 7 14295120000 0) 1 1 14295120000 ∷ said (report 7 14295120001 1) 1 1 14295120001 ∷ []
+
 -- the first train, with its rear at 20,000,000,000
 abbrev pub firstEnters : Event
 firstEnters = said (enter 1 34295120000 2345 1 0) 133303 263 34295120000

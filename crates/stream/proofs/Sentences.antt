@@ -1,12 +1,12 @@
--- Document 01, "What is turned down", said a second time of a session: what a line is answered, and the state after it, by what stands in
--- the line. Which lines can be read at all is said in wire/proofs/RoundTrip and Unique.
+-- Document 01, "What is turned down" and "The session program", said a second time of a session: how an input is cut into lines, what a line is
+-- answered, and the state after it, by what stands in the line. Which lines can be read at all is said in wire/proofs/RoundTrip and Unique.
 -- Assumes nothing.
 use Prim.Native.Nat.{ℕ}
 use mathlib.Core.Bool.{Bool, true, false, _||_}
-use mathlib.Core.List.{List, [], _∷_, _++_}
+use mathlib.Core.List.{List, [], _∷_, _++_, append-assoc, append-nil}
 use lib.Dec.{eqb}
 use lib.ListN.{replicate}
-use mathlib.Core.Path.{_≡_, refl, ap, _∙_}
+use mathlib.Core.Path.{_≡_, refl, sym, ap, _∙_}
 use borrow.Author.Tests.{ne-eqb}
 use Rattle.calls.specs.declared.Opening.{Opening}
 use Rattle.calls.specs.declared.Call.{Call}
@@ -30,8 +30,42 @@ use Rattle.wire.specs.Format.{lineRead, left, text, textOf, answerText}
 use Rattle.stream.specs.declared.Session.{Session}
 use Rattle.stream.specs.declared.Reply.{Reply}
 use Rattle.stream.specs.Session.{session, lineDecision, answered}
-use Rattle.stream.specs.Input.{outputLine, lastAnswer}
+use Rattle.stream.specs.Input.{lines, rest, outputLine, answers, lastAnswer}
 use Rattle.stream.proofs.Safe.{repliedTo}
+
+-- ---- the lines of an input
+
+-- no line feed among these bytes
+abbrev pub NoFeed : List ℕ → Type 0
+NoFeed [] = Unit {0}
+NoFeed (b ∷ bs) = (b ≡ 10 → ⊥) × NoFeed bs
+
+-- where the bytes g have come before
+line-from : (g l more : List ℕ) → NoFeed l → (lines g (l ++ (10 ∷ more)) ≡ (g ++ l) ∷ lines [] more) × (rest g (l ++ (10 ∷ more)) ≡ rest [] more)
+unfolding lines rest
+line-from g [] more none = rw append-nil (refl, refl)
+line-from g (b ∷ l) more (other, none) = rw (ne-eqb b 10 other, sym (append-assoc g (b ∷ []) l)) (line-from (g ++ (b ∷ [])) l more none)
+
+rest-from : (g l : List ℕ) → NoFeed l → (lines g l ≡ []) × (rest g l ≡ g ++ l)
+unfolding lines rest
+rest-from g [] none = (refl, sym (append-nil g))
+rest-from g (b ∷ l) (other, none) = rw (ne-eqb b 10 other, sym (append-assoc g (b ∷ []) l)) (rest-from (g ++ (b ∷ [])) l none)
+
+-- "then a line feed": what stands before the first line feed is the first line, every byte of it and no other, and the rest is cut in the same way
+pub first-line : (l more : List ℕ) → NoFeed l → (lines [] (l ++ (10 ∷ more)) ≡ l ∷ lines [] more) × (rest [] (l ++ (10 ∷ more)) ≡ rest [] more)
+first-line = line-from []
+
+-- without a line feed no line is whole, and all of it is left over
+pub no-line : (l : List ℕ) → NoFeed l → (lines [] l ≡ []) × (rest [] l ≡ l)
+no-line = rest-from []
+
+-- "for each input line one line", in order, each answered in the state that the one before it left
+pub each-answered : (s : Session) (l : List ℕ) (ls : List (List ℕ))
+    → answers s (l ∷ ls) ≡ answerText (answered s l .answer) ++ (10 ∷ answers (answered s l .session) ls)
+unfolding answers outputLine
+each-answered s l ls = append-assoc (answerText (answered s l .answer)) (10 ∷ []) _
+
+-- ---- a line
 
 -- a refusal with this number: zeros, and the session as it was
 abbrev refusal : ℕ → Session → Reply

@@ -1,6 +1,6 @@
 -- Which train an id names, what a change leaves at each place, and the limit there, said a second time: in places, ids and sums.
 -- Assumes nothing.
-use Prim.Native.Nat.{ℕ, zero, suc, _+_, _*_, _≤_, _<_}
+use Prim.Native.Nat.{ℕ, zero, suc, _+_, _-_, _*_, _≤_, _<_}
 use mathlib.Core.List.{List, [], _∷_}
 use mathlib.Core.Logic.{by-cases, _↔_}
 use mathlib.Core.Option.{Option, none, some}
@@ -9,7 +9,7 @@ use native.Mathlib.Decide.{decLt}
 use native.Mathlib.Omega.{arith}
 use lib.Dec.{eqb}
 use lib.ListN.{length, getD}
-use lib.Seq.{getD-set-other, getD-drop}
+use lib.Seq.{getD-set-same, getD-set-other, getD-drop}
 use borrow.Author.Tests.{eqb-true, eqb-false}
 use Rattle.logic.proofs.Tests.{by-test}
 use Rattle.calls.specs.declared.Opening.{Opening}
@@ -107,15 +107,28 @@ module _ (t : Table) (sized : Sized t) (id : ℕ) where
       go h none e = refl
       go h (some i) e = let a = first-with i e in absurd (h i (a .below) (a .here))
 
--- ---- what a change leaves at each place
+-- ---- what a change leaves at each place, how many trains, and with which settings
 
--- another record at place i, and all others as they were
+pub record Leaves (count : ℕ) (before after : Table) : Type 0 where
+  pub trains : after .count ≡ count
+  pub settings : after .settings ≡ before .settings
+
+-- another record at place i (Places: still-there), and all others as they were
 pub put-leaves : (t : Table) (i j : ℕ) (x : Train) → (j ≡ i → ⊥) → trainAt (changed t (Put i x)) j ≡ trainAt t j
 put-leaves t i j x other = getD-set-other (t .trains) i j x blankTrain other
+
+pub put-as-many : (t : Table) (i : ℕ) (x : Train) → Leaves (t .count) t (changed t (Put i x))
+put-as-many t i x = record { trains = refl; settings = refl }
 
 -- "behind the last train"
 pub add-leaves : (t : Table) (x : Train) (j : ℕ) → j < t .count → trainAt (changed t (Add x)) j ≡ trainAt t j
 add-leaves t x j below = getD-set-other (t .trains) (t .count) j x blankTrain (λ e. omega arith)
+
+pub add-last : (t : Table) (x : Train) → Sized t → t .count < 32 → trainAt (changed t (Add x)) (t .count) ≡ x
+add-last t x sized free = let size = sized .size in getD-set-same (t .trains) (t .count) x blankTrain (omega arith)
+
+pub add-one-more : (t : Table) (x : Train) → Leaves (t .count + 1) t (changed t (Add x))
+add-one-more t x = record { trains = refl; settings = refl }
 
 -- the others one place nearer the front
 pub drop-leaves : (t : Table) → Sized t → (j : ℕ) → suc j < t .count → trainAt (changed t DropFirst) j ≡ trainAt t (suc j)
@@ -126,6 +139,9 @@ drop-leaves t sized j below =
     ∙ getD-drop 1 (onLine t) j blankTrain
     ∙ ap (λ (n : ℕ). getD (onLine t) n blankTrain) next
     ∙ sym (train-on-line t (suc j) below)
+
+pub drop-one-fewer : (t : Table) → Leaves (t .count - 1) t (changed t DropFirst)
+drop-one-fewer t = record { trains = refl; settings = refl }
 
 -- "makes a new table with these settings and no train", whatever table was there
 pub anew-leaves : (t : Table) (o : Opening) → WorksWith o (changed t (Anew o) .settings) × (changed t (Anew o) .count ≡ 0)

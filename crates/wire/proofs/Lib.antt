@@ -1,3 +1,4 @@
 pub mod Fields
 pub mod RoundTrip
+pub mod Sentences
 pub mod Unique
