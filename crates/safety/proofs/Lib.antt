@@ -5,6 +5,7 @@ pub mod Line
 pub mod Tables
 pub mod Calls
 pub mod Demand3
+pub mod Plain
 pub mod Bounds
 pub mod Demand2
 pub mod Repeats

@@ -1,32 +1,24 @@
 -- The count is document 01's, and the claim can fail: each part of it is broken by a history of its own.
 -- Assumes nothing.
-use Prim.Native.Nat.{ℕ, suc, _+_, _≤_}
+use Prim.Native.Nat.{ℕ, suc, _≤_}
 use mathlib.Core.List.{[], _∷_}
 use mathlib.Core.Path.{_≡_, refl, ap}
 use native.Mathlib.Omega.{arith}
 use Rattle.logic.specs.Rounding.{ceilDiv}
-use Rattle.logic.proofs.Rounding.{RoundedUp}
 use Rattle.logic.proofs.Tests.{not-both}
 use Rattle.ranges.specs.Ranges.{between}
-use Rattle.brake.specs.Consist.{Sound, carOf, fullBrake, applicationTime, applicationCycles, sheetEntry, entryFor, brakeCycles, figuresWith, figuresBy, figuresOf}
+use Rattle.brake.specs.Consist.{carOf, fullBrake, applicationTime, applicationCycles, sheetEntry, entryFor, brakeCycles, figuresWith, figuresBy, figuresOf}
 use Rattle.motion.specs.Motion.{nextLevel, stands}
 use Rattle.motion.specs.Count.{cyclesToStand}
 use Rattle.motion.specs.Starred.{fullGiven}
-use Rattle.motion.proofs.OrderSentences.{cycles-counted}
-use Rattle.calls.specs.declared.Opening.{Opening}
 use Rattle.train.specs.Track.{stepsOf}
-use Rattle.safety.specs.History.{isAccepted, toldAct, toldCall, toldBy, Told, told, rearOf}
-use Rattle.safety.specs.Claim.{countedReports, Claim}
+use Rattle.safety.specs.History.{isAccepted, toldAct, toldCall, toldBy, told, rearOf}
+use Rattle.safety.specs.Claim.{Claim}
 use Rattle.safety.specs.Worked.{sessionLine, loadedEnters, heldCount, rearOffTheLine, headPastEnd, sameCapEachCycle, endTooNear, endOffTheLine, overlapOfTwo, heldAndMoving, brakedAndMoving, figuresMadeUp}
 
 pub counted : heldCount (told sessionLine (loadedEnters ∷ []) .trains) ≡ 710
 unfolding ceilDiv cyclesToStand isAccepted toldCall toldBy told
 counted = refl
-
--- "1 + B/j + V/B ..., both quotients rounded up": for every opening and every train
-pub count-exactly : (o : Opening) (x : Told) (n m : ℕ) → Sound (x .figures) → RoundedUp n (x .figures .full) (x .figures .growth) → RoundedUp m (o .ceiling) (x .figures .full)
-    → countedReports o x ≡ 1 + n + m
-count-exactly o x n m sound growing slowing = let cycles = cycles-counted (x .figures) (o .ceiling) n m sound growing slowing in omega arith
 
 -- no number is above itself. Each part is refuted from itself alone: no other part is in reach here.
 not-above : (n : ℕ) → suc n ≤ n → ⊥
