@@ -415,11 +415,20 @@ impl Drop for Folder {
     }
 }
 
+/// Two crates that `session` needs, in two ways; one that it does not need; one
+/// of the kit.
+const CRATES: &str = "# NAME: what it needs
+one:
+two: one
+other: one two
+session: one two io
+";
+
 /// The script in a project with a made-up prover, so that nothing has to be
 /// proved.
 fn start_script(folder: &Folder, prover: &str) -> Child {
     fs::create_dir(folder.file("crates")).expect("a folder");
-    fs::write(folder.file("crates.txt"), "").expect("a file");
+    fs::write(folder.file("crates.txt"), CRATES).expect("a file");
     Command::new(folder.file("session"))
         // Bash takes a function from the environment as a command.
         .env("BASH_FUNC_rt%%", format!("() {{ {prover}\n}}"))
@@ -430,23 +439,28 @@ fn start_script(folder: &Folder, prover: &str) -> Child {
         .expect("the script runs")
 }
 
-/// The prover waits after its first crate until the test has seen the line.
+/// The prover waits after its second crate until the test has seen the line.
 #[test]
 fn script_shows_each_crate_when_it_is_done() {
     let folder = Folder::with_session("proving", SCRIPT);
     let mut child = start_script(
         &folder,
-        "echo fn one::f: proved; echo 'rt: one proved (1 s)'
+        "echo 'rt: one proved (unchanged since it was last proved)'
+        echo fn two::f: proved; echo 'rt: two proved (1 s)'
         while [ ! -e seen ]; do sleep 0.01; done
         echo 'rt: session proved (2 s)'
+        echo 'rt: session ran, and wrote what its file has (0 s)'
         mkdir -p target/bin; echo 'echo run' > target/bin/session; chmod +x target/bin/session",
     );
     let mut told = BufReader::new(child.stderr.take().expect("its errors")).lines();
     let mut next = || told.next().map(|line| line.expect("text"));
     assert!(next().is_some_and(|line| line.starts_with("session: proving")));
-    assert_eq!(next().as_deref(), Some("rt: one proved (1 s)"));
+    let unchanged = "session: 1 of 3 proved: one (unchanged since it was last proved)";
+    assert_eq!(next().as_deref(), Some(unchanged));
+    assert_eq!(next().as_deref(), Some("session: 2 of 3 proved: two (1 s)"));
     fs::write(folder.file("seen"), "").expect("a file");
-    assert_eq!(next().as_deref(), Some("rt: session proved (2 s)"));
+    let last = "session: 3 of 3 proved: session (2 s)";
+    assert_eq!(next().as_deref(), Some(last));
     assert_eq!(next(), None);
     let output = child.wait_with_output().expect("the script ends");
     assert_eq!(output.stdout, b"run\n");
