@@ -5,6 +5,7 @@ use crate::callers::TurnedAway;
 use crate::claim::{self, Penalties, Reached};
 use crate::orders::Orders;
 use crate::session;
+use crate::spoil::long_runs;
 use crate::wire::{lines, read_answer, read_message, whole_line};
 use std::io::{Read, Write};
 use std::path::{Path, PathBuf};
@@ -105,6 +106,8 @@ pub struct Counts {
     pub lists_held_moving: u64,
     pub penalties: Penalties,
     pub turned_away: TurnedAway,
+    /// Long runs of empty lines.
+    pub long_runs: u64,
 }
 
 impl Counts {
@@ -123,6 +126,7 @@ impl Counts {
         self.penalties.add(reached.penalties);
         self.turned_away.add(reached.turned_away);
         self.orders.add(reached.orders);
+        self.long_runs += long_runs(input);
         for (line, answer) in lines(input).zip(lines(expected)) {
             let message = whole_line(line).and_then(read_message);
             let call = message.map(|message| message.call);

@@ -10,6 +10,7 @@ use crate::line::{
 use crate::random::Random;
 use crate::ranges::{ranges, wrong_settings};
 use crate::scene::{Profile, Scene};
+use crate::spoil::long_run;
 use crate::wire::put_message;
 
 #[derive(Clone, Copy, Debug, PartialEq, Eq)]
@@ -30,7 +31,7 @@ pub enum Kind {
     Held,
     /// Trains that brake while they move, several at a time.
     Braked,
-    /// Spoilt lines among good ones.
+    /// Spoilt lines among good ones, and a long run of empty ones.
     Garbage,
     /// Calls before the opening, refused and second openings.
     Openings,
@@ -89,7 +90,8 @@ impl Kind {
             Kind::Running => 4000,
             Kind::Worst | Kind::Held | Kind::Searched => 2500,
             Kind::Tight | Kind::Braked | Kind::Mixture => 1600,
-            Kind::Tiny | Kind::Full | Kind::Garbage => 1000,
+            Kind::Garbage => 1300,
+            Kind::Tiny | Kind::Full => 1000,
             Kind::Ranges => 0,
             Kind::Openings => 80,
         }
@@ -116,6 +118,7 @@ pub fn list(seed: u64, kind: Kind) -> Vec<u8> {
         Kind::Worst => worst(&mut scene, settings),
         Kind::Held => held(&mut scene, settings),
         Kind::Braked => braked(&mut scene, settings),
+        Kind::Garbage => garbage(&mut scene, settings),
         Kind::Openings => openings(&mut scene, settings),
         Kind::Searched => searched(&mut scene, settings),
         _ => open(&mut scene, settings),
@@ -308,6 +311,16 @@ fn give_all_track(scene: &mut Scene) {
             scene.extend(&train, train.number + 1, free);
         }
     }
+}
+
+/// Empty lines follow one another when some trains are on the line.
+fn garbage(scene: &mut Scene, settings: Settings) {
+    open(scene, settings);
+    while scene.lines() < Kind::Garbage.lines() / 2 {
+        scene.step();
+    }
+    let run = long_run(&mut scene.random);
+    scene.send(&run);
 }
 
 /// Calls before the opening, refused openings, then second ones.

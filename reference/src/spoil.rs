@@ -1,8 +1,14 @@
 //! Spoilt input lines: what a bad typist or a broken cable sends.
 
 use crate::random::Random;
-use crate::wire::{CODE_BYTES, FIELD_BYTES, MESSAGE_BYTES, MESSAGE_FIELDS};
+use crate::wire::{ANSWER_BYTES, CODE_BYTES, FIELD_BYTES, MESSAGE_BYTES, MESSAGE_FIELDS};
 use std::ops::Range;
+
+/// What the session program reads at once, at most.
+pub const READ_BYTES: usize = 4096;
+/// Of so many empty lines in a row so many stand in one read, wherever the reads
+/// cut, that their answers are longer than a read.
+pub const LONG_RUN: usize = 2 * (READ_BYTES / (ANSWER_BYTES + 1)) + 1;
 
 /// Set at the right of the code's columns.
 const ODD_CODES: [&[u8]; 8] = [b"0", b"9", b"01", b"10", b"1 ", b"", b"-1", b"99"];
@@ -39,6 +45,19 @@ pub fn spoil(line: &mut Vec<u8>, random: &mut Random) {
         20 => repeat_caller(line),
         _ => noise(line, random),
     }
+}
+
+/// A long run of empty lines.
+pub fn long_run(random: &mut Random) -> Vec<u8> {
+    let least = LONG_RUN as u64;
+    vec![b'\n'; random.between(least, 2 * least) as usize]
+}
+
+/// How many long runs of empty lines an input has.
+pub fn long_runs(input: &[u8]) -> u64 {
+    let feeds = input.split(|&byte| byte != b'\n');
+    // The first line feed ends the line before the run.
+    feeds.filter(|feeds| feeds.len() > LONG_RUN).count() as u64
 }
 
 /// The columns of a number, of those from the one with index `first` on.

@@ -108,6 +108,7 @@ fn right_version_does_not_differ_from_itself() {
     assert!(rare.is_empty(), "callers without the right: {rare:?}");
     let rare = counts.orders.rare(200);
     assert!(rare.is_empty(), "caps found by trials: {rare:?}");
+    assert!(counts.long_runs > 10, "{counts:?}");
 }
 
 /// So it is the edit that makes a wrong version differ.

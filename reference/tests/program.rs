@@ -7,6 +7,7 @@ use reference::compare::{must_exist, program, run};
 use reference::generate::{list, Kind};
 use reference::random::Random;
 use reference::session;
+use reference::spoil::READ_BYTES;
 use reference::wire::{lines, ANSWER_BYTES, FIELD_BYTES, MESSAGE_BYTES};
 use std::fs;
 use std::io::{BufRead, BufReader, ErrorKind, Read, Write};
@@ -78,13 +79,17 @@ impl Running {
         input.write_all(bytes).expect("the program reads its input");
     }
 
-    /// The next answer line. A program that keeps it back is stopped, so that
-    /// the test ends.
     fn answer(&mut self) -> String {
+        self.answers(1)
+    }
+
+    /// So many answer lines. A program that keeps them back is stopped, so that
+    /// the test ends.
+    fn answers(&mut self, count: usize) -> String {
         let mut output = self.output.take().expect("the output is open");
         let reader = thread::spawn(move || {
-            let mut line = [0; ANSWER_BYTES + 1];
-            output.read_exact(&mut line).map(|()| (output, line))
+            let mut lines = vec![0; count * (ANSWER_BYTES + 1)];
+            output.read_exact(&mut lines).map(|()| (output, lines))
         });
         let begin = Instant::now();
         while !reader.is_finished() && begin.elapsed() < PATIENCE {
@@ -94,9 +99,9 @@ impl Running {
             self.stop();
         }
         let read = reader.join().expect("the reader ends");
-        let (output, line) = read.expect("the program answers before it waits for more");
+        let (output, lines) = read.expect("the program answers before it waits for more");
         self.output = Some(output);
-        String::from_utf8_lossy(&line).into_owned()
+        String::from_utf8_lossy(&lines).into_owned()
     }
 
     /// Closes the input and gives what is left of the output.
@@ -175,6 +180,16 @@ fn line_may_come_byte_by_byte() {
     }
     assert_eq!(running.answer(), DONE);
     assert_eq!(running.answer(), ENTERED);
+    assert_eq!(running.finish(), "");
+}
+
+/// As many lines as one read can end: their answers are 45 times as long.
+#[test]
+fn every_line_feed_of_a_read_is_answered() {
+    let mut running = Running::start();
+    running.write(&[b'\n'; READ_BYTES]);
+    let answers = running.answers(READ_BYTES);
+    assert!(answers == UNREADABLE.repeat(READ_BYTES), "{answers}");
     assert_eq!(running.finish(), "");
 }
 

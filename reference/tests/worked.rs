@@ -7,6 +7,8 @@ use std::path::PathBuf;
 
 use reference::compare::ANSWERS;
 use reference::session;
+use reference::spoil::READ_BYTES;
+use reference::wire::ANSWER_BYTES;
 
 fn of_crates(file: &str) -> String {
     let path: PathBuf = [env!("CARGO_MANIFEST_DIR"), "../crates", file]
@@ -17,16 +19,29 @@ fn of_crates(file: &str) -> String {
 
 /// The input lines and the answers on a page, in order.
 fn page(file: &str) -> (Vec<String>, Vec<String>) {
-    of_crates(file)
-        .lines()
-        .filter_map(|line| {
-            let texts: Vec<&str> = line.split('"').collect();
-            match texts[..] {
-                [_, input, " ", answer, ""] => Some((input.to_owned(), answer.to_owned())),
-                _ => None,
-            }
-        })
-        .unzip()
+    let text = of_crates(file);
+    text.lines().flat_map(exchanges).unzip()
+}
+
+/// What a line of a page has: `line "INPUT" "ANSWER"`, the same in
+/// `replicate COUNT (...)`, or neither.
+fn exchanges(line: &str) -> Vec<(String, String)> {
+    let texts: Vec<&str> = line.split('"').collect();
+    let (input, answer, count) = match texts[..] {
+        [_, input, " ", answer, ""] => (input, answer, 1),
+        [start, input, " ", answer, ")"] => (input, answer, count_in(start)),
+        _ => return Vec::new(),
+    };
+    vec![(input.to_owned(), answer.to_owned()); count]
+}
+
+fn count_in(start: &str) -> usize {
+    let count = start
+        .trim()
+        .strip_prefix("∷ replicate ")
+        .and_then(|rest| rest.strip_suffix(" (line"))
+        .and_then(|count| count.parse().ok());
+    count.unwrap_or_else(|| panic!("no count in {start:?}"))
 }
 
 /// Document 01's session, then document 02's.
@@ -66,7 +81,7 @@ fn second_implementation_gives_the_answers() {
 
 #[test]
 fn input_needs_several_reads_and_each_answer_comes_up() {
-    assert!(of_crates("session/stdin").len() > 4 * 4096);
+    assert!(of_crates("session/stdin").len() > 4 * READ_BYTES);
     let output = of_crates("session/stdout");
     for number in 0..ANSWERS {
         let start = format!("{number:2} ");
@@ -75,4 +90,13 @@ fn input_needs_several_reads_and_each_answer_comes_up() {
             "answer {number}"
         );
     }
+}
+
+/// A program that writes no more than a read for a read would lose some.
+#[test]
+fn answers_to_one_read_are_longer_than_a_read() {
+    let input = of_crates("session/stdin");
+    let mut reads = input.as_bytes().chunks(READ_BYTES);
+    let feeds = |read: &[u8]| read.iter().filter(|&&byte| byte == b'\n').count();
+    assert!(reads.any(|read| feeds(read) * (ANSWER_BYTES + 1) > READ_BYTES));
 }

@@ -494,7 +494,8 @@ fourthPart =
     ∷ line " 3             7   19895189405         96045             0             0             7" " 0             2             0   19897780886"
     -- In the new stay nothing of the earlier one counts: number 1 is new, and there is no track.
     ∷ line " 4         65535             1             1             0             0         65535" "13             0             0             0"
-    ∷ []
+    -- 200 empty lines. The answers to 92 have more bytes than one read; of 200, so many stand in one read wherever the reads cut.
+    ∷ replicate 200 (line "" " 1             0             0             0")
 
 -- the last line has no line feed
 abbrev pub unfinished : Exchange

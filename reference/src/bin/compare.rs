@@ -6,6 +6,7 @@ use reference::callers::{TurnedAway, Wrong};
 use reference::compare::{self, Counts, Failure, ANSWERS};
 use reference::ended;
 use reference::generate;
+use reference::spoil::LONG_RUN;
 use reference::wire::lines;
 use std::io::{self, IsTerminal, Write};
 use std::path::{Path, PathBuf};
@@ -18,6 +19,8 @@ const DEFAULT_LINES: u64 = 600_000;
 const LINES_FOR_A_WRONG_CALLER: u64 = 10_000;
 /// In so many lines a search for a cap ends in each way.
 const LINES_FOR_A_SEARCH: u64 = 2000;
+/// In so many lines there is a long run of empty ones.
+const LINES_FOR_A_LONG_RUN: u64 = 100_000;
 const USAGE: &str = "usage: compare [--seed N] [--lines N] [--program PATH] [--replay FILE]";
 
 struct Options {
@@ -90,7 +93,8 @@ fn compare_lists(options: &Options) -> Result<(), String> {
     );
     all_numbers_occur(&counts)?;
     all_wrong_callers_occur(&counts)?;
-    all_searches_occur(&counts)
+    all_searches_occur(&counts)?;
+    long_runs_occur(&counts)
 }
 
 fn compare_list(
@@ -184,6 +188,10 @@ fn print_table(counts: &Counts) {
         brakes.lifted,
         brakes.together
     );
+    println!(
+        "{} runs of {LONG_RUN} empty lines or more",
+        counts.long_runs
+    );
 }
 
 fn print_codes() {
@@ -236,6 +244,18 @@ fn all_searches_occur(counts: &Counts) -> Result<(), String> {
     Err(format!(
         "caps found by trials, fewer than {least}: {}",
         rare.join(", ")
+    ))
+}
+
+/// A read of other lines ends some 50, and has answers shorter than itself.
+fn long_runs_occur(counts: &Counts) -> Result<(), String> {
+    let least = (counts.lines / LINES_FOR_A_LONG_RUN).max(1);
+    if counts.long_runs >= least {
+        return Ok(());
+    }
+    Err(format!(
+        "runs of {LONG_RUN} empty lines, fewer than {least}: {}",
+        counts.long_runs
     ))
 }
 
