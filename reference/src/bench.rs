@@ -1,17 +1,30 @@
-//! Inputs to measure the session program with: realistic runs and the worst
-//! figures of the ranges.
+//! Inputs to measure the session program with: realistic runs, the worst figures
+//! of the ranges, and lines that work out no order.
 
 use crate::brake::{LONGEST_FEET, STEPS_PER_FOOT};
-use crate::call::{Entry, Settings};
+use crate::call::{Call, Entry, Settings};
+use crate::callers::usual;
 use crate::convoy::Convoy;
-use crate::line::{GREATEST_CEILING, GREATEST_TRACTION, LONGEST_LINE};
+use crate::line::{GREATEST_CEILING, GREATEST_TRACTION, LONGEST_LINE, MOST_TRAINS};
 use crate::motion::{Motion, Order};
 use crate::scene::{Profile, Scene};
 use crate::train::Train;
-use crate::wire::{lines, MESSAGE_BYTES};
+use crate::wire::{lines, put_message, MESSAGE_BYTES};
 
 /// About half of the traction.
 const HALF: Order = Order::Drive(GREATEST_TRACTION / 2 + 1);
+/// The length and the settings of document 01's example, but the longest line.
+const FEET: u64 = 2345;
+const SETTINGS: Settings = Settings {
+    line_end: LONGEST_LINE,
+    safety: 8_000_000_000,
+    ceiling: 26_822_400,
+    traction: 3726,
+};
+/// No train of a full line has this id.
+const UNKNOWN: u64 = MOST_TRAINS as u64 + 1;
+/// From head to head of its trains.
+const SPACING: u64 = LONGEST_LINE / UNKNOWN;
 
 /// A lead-in, which is not measured, and the lines after it.
 pub struct Measured {
@@ -24,13 +37,8 @@ pub struct Measured {
 pub fn realistic(trains: usize, count: usize) -> Measured {
     let convoy = Convoy {
         trains,
-        feet: 2345,
-        settings: Settings {
-            line_end: LONGEST_LINE,
-            safety: 8_000_000_000,
-            ceiling: 26_822_400,
-            traction: 3726,
-        },
+        feet: FEET,
+        settings: SETTINGS,
     };
     let mut scene = scene();
     convoy.start(&mut scene);
@@ -95,6 +103,79 @@ pub fn standing_bound(count: usize) -> Measured {
     })
 }
 
+/// Holds of all trains in turn, which are accepted.
+pub fn holds(count: usize) -> Measured {
+    measure_lines(&mut full_scene(), count, hold)
+}
+
+/// Extensions of all trains in turn, each with a new number and accepted.
+pub fn extensions(count: usize) -> Measured {
+    measure_lines(&mut full_scene(), count, extend)
+}
+
+/// Extensions of all trains in turn, each a repeat.
+pub fn repeats(count: usize) -> Measured {
+    let mut scene = full_scene();
+    (0..MOST_TRAINS).for_each(|number| extend(&mut scene, number));
+    measure_lines(&mut scene, count, repeat)
+}
+
+/// Lines with a letter in the last column.
+pub fn unreadable_lines(count: usize) -> Measured {
+    measure_lines(&mut full_scene(), count, send_unreadable)
+}
+
+/// Enterings in good order, but the line is full: 6.
+pub fn refused_enterings(count: usize) -> Measured {
+    let entry = entry_at(UNKNOWN, SPACING / 2);
+    measure_lines(&mut full_scene(), count, |scene, _| scene.enter(entry))
+}
+
+/// A hold, a lift, a hold of an unknown train and an unreadable line, in turn.
+pub fn cheap_mixed(count: usize) -> Measured {
+    measure_lines(&mut full_scene(), count, |scene, number| {
+        let round = number / 4;
+        match number % 4 {
+            0 => hold(scene, round),
+            1 => lift(scene, round),
+            2 => scene.call(Call::Hold { id: UNKNOWN }),
+            _ => send_unreadable(scene, round),
+        }
+    })
+}
+
+fn in_turn(scene: &Scene, number: usize) -> Train {
+    scene.trains()[number % MOST_TRAINS]
+}
+
+fn hold(scene: &mut Scene, number: usize) {
+    let id = in_turn(scene, number).id;
+    scene.call(Call::Hold { id });
+}
+
+fn lift(scene: &mut Scene, number: usize) {
+    let id = in_turn(scene, number).id;
+    scene.call(Call::Lift { id });
+}
+
+fn extend(scene: &mut Scene, number: usize) {
+    let train = in_turn(scene, number);
+    scene.extend(&train, train.number + 1, 1);
+}
+
+fn repeat(scene: &mut Scene, number: usize) {
+    let train = in_turn(scene, number);
+    scene.extend(&train, train.number, 1);
+}
+
+fn send_unreadable(scene: &mut Scene, number: usize) {
+    let id = in_turn(scene, number).id;
+    let mut line = Vec::new();
+    put_message(usual(Call::Hold { id }), &mut line);
+    line[MESSAGE_BYTES - 1] = b'x';
+    scene.send(&line);
+}
+
 fn scene() -> Scene {
     let profile = Profile {
         longest_feet: LONGEST_FEET,
@@ -103,6 +184,26 @@ fn scene() -> Scene {
         wrong_callers: false,
     };
     Scene::new(1, profile)
+}
+
+fn entry_at(id: u64, head: u64) -> Entry {
+    Entry {
+        id,
+        head,
+        feet: FEET,
+        class: 1,
+        start: 0,
+    }
+}
+
+/// As many trains as may be stand on the line, all with room ahead.
+fn full_scene() -> Scene {
+    let mut scene = scene();
+    scene.open(SETTINGS);
+    for id in (1..UNKNOWN).rev() {
+        scene.enter(entry_at(id, SPACING * id));
+    }
+    scene
 }
 
 /// The longest train of class 3 has just entered.
@@ -151,12 +252,17 @@ fn measure_reports(scene: &mut Scene, count: usize) -> Measured {
 
 /// So many reports of what the train's record gives, after what the scene has.
 fn measure(scene: &mut Scene, count: usize, next: impl Fn(&Train) -> Option<Motion>) -> Measured {
-    let lead = scene.input().to_vec();
-    for _ in 0..count {
+    measure_lines(scene, count, |scene, _| {
         let train = scene.trains()[0];
         let next = next(&train).unwrap_or(train.motion);
         scene.report(&train, next.head, next.speed);
-    }
+    })
+}
+
+/// So many lines after what the scene has, each sent by its number.
+fn measure_lines(scene: &mut Scene, count: usize, send: impl Fn(&mut Scene, usize)) -> Measured {
+    let lead = scene.input().to_vec();
+    (0..count).for_each(|number| send(scene, number));
     let whole = scene.input().to_vec();
     Measured {
         lines: lines(&whole).count() - lines(&lead).count(),

@@ -3,7 +3,8 @@
 //! session program is measured too.
 
 use reference::bench::{
-    realistic, slowing_bound, standing_bound, worst_bound, worst_free, Measured,
+    cheap_mixed, extensions, holds, realistic, refused_enterings, repeats, slowing_bound,
+    standing_bound, unreadable_lines, worst_bound, worst_free, Measured,
 };
 use reference::compare;
 use reference::ended;
@@ -22,51 +23,87 @@ struct Case {
     name: &'static str,
     make: fn(usize) -> Measured,
     timed: &'static [usize],
-    counted: usize,
+    counted: &'static [usize],
 }
 
-const CASES: [Case; 7] = [
+const CASES: [Case; 13] = [
     Case {
         name: "realistic, 1 train",
         make: |count| realistic(1, count),
         timed: &[1000, 10_000, 100_000],
-        counted: 5000,
+        counted: &[5000],
     },
     Case {
         name: "realistic, 8 trains",
         make: |count| realistic(8, count),
         timed: &[1000, 10_000, 100_000],
-        counted: 5000,
+        counted: &[5000],
     },
     Case {
         name: "realistic, 32 trains",
         make: |count| realistic(32, count),
         timed: &[1000, 10_000, 100_000],
-        counted: 5000,
+        counted: &[5000],
     },
     Case {
         name: "worst, free track",
         make: worst_free,
         timed: &[1000, 10_000],
-        counted: 200,
+        counted: &[200],
     },
     Case {
         name: "worst, cap searched",
         make: worst_bound,
         timed: &[1000, 10_000],
-        counted: 200,
+        counted: &[200],
     },
     Case {
         name: "slowing, cap searched",
         make: slowing_bound,
         timed: &[1000],
-        counted: 1000,
+        counted: &[1000],
     },
     Case {
         name: "stand, cap searched",
         make: standing_bound,
         timed: &[1000, 10_000],
-        counted: 1000,
+        counted: &[1000],
+    },
+    Case {
+        name: "hold, accepted",
+        make: holds,
+        timed: &[10_000, 100_000],
+        counted: &[5000],
+    },
+    Case {
+        name: "extend, new number",
+        make: extensions,
+        timed: &[10_000, 100_000],
+        counted: &[5000],
+    },
+    Case {
+        name: "extend, repeat",
+        make: repeats,
+        timed: &[10_000, 100_000],
+        counted: &[5000],
+    },
+    Case {
+        name: "unreadable line",
+        make: unreadable_lines,
+        timed: &[10_000, 100_000],
+        counted: &[5000],
+    },
+    Case {
+        name: "enter, refused with 6",
+        make: refused_enterings,
+        timed: &[10_000, 100_000],
+        counted: &[5000],
+    },
+    Case {
+        name: "cheap, mixed",
+        make: cheap_mixed,
+        timed: &[10_000, 100_000],
+        counted: &[10_000, 100_000],
     },
 ];
 
@@ -104,12 +141,7 @@ fn start() -> Result<(), String> {
         print!("{other:>12}{:>8}", "ratio");
     }
     println!();
-    for case in &CASES {
-        for &count in case.timed {
-            let measured = (case.make)(count);
-            row(case.name, &measured, "nanoseconds", &programs, best_time)?;
-        }
-    }
+    rows("nanoseconds", |case| case.timed, &programs, best_time)?;
     if time_only {
         return Ok(());
     }
@@ -117,15 +149,24 @@ fn start() -> Result<(), String> {
         println!("valgrind is not there: no instructions counted");
         return Ok(());
     }
+    rows("instructions", |case| case.counted, &programs, instructions)
+}
+
+/// What a program costs on an input.
+type Cost = fn(&Path, &Path) -> Result<f64, String>;
+
+/// The rows of all cases, each with these counts of lines.
+fn rows(
+    unit: &str,
+    counts: fn(&Case) -> &[usize],
+    programs: &[PathBuf],
+    cost: Cost,
+) -> Result<(), String> {
     for case in &CASES {
-        let measured = (case.make)(case.counted);
-        row(
-            case.name,
-            &measured,
-            "instructions",
-            &programs,
-            instructions,
-        )?;
+        for &count in counts(case) {
+            let measured = (case.make)(count);
+            row(case.name, &measured, unit, programs, cost)?;
+        }
     }
     Ok(())
 }
@@ -137,7 +178,7 @@ fn row(
     measured: &Measured,
     unit: &str,
     programs: &[PathBuf],
-    cost: fn(&Path, &Path) -> Result<f64, String>,
+    cost: Cost,
 ) -> Result<(), String> {
     let per_line = |program: &PathBuf| {
         let lead = with_file(&measured.lead, |file| cost(program, file))?;
