@@ -44,7 +44,7 @@ fn count_in(start: &str) -> usize {
     count.unwrap_or_else(|| panic!("no count in {start:?}"))
 }
 
-/// Document 01's session, then document 02's.
+/// Document 01's session, then the example of a penalty brake.
 #[test]
 fn sessions_are_their_page() {
     let (inputs, answers) = page("papers/specs/Paper.antt");

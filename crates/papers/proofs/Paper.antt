@@ -1,4 +1,4 @@
--- The sessions of the papers are what the definitions give: computed.
+-- The sessions are what the definitions give: computed.
 -- Assumes nothing.
 use mathlib.Core.Path.{_≡_, refl}
 use Rattle.stream.specs.Input.{lastAnswer, output}
@@ -11,7 +11,7 @@ pub worked-session : output (inputOf paperSession) ≡ outputOf paperSession
 unfolding ran lastAnswer
 worked-session = refl
 
--- document 02's example of a penalty brake
+-- the example of a penalty brake
 pub penalty-session : output (inputOf penaltySession) ≡ outputOf penaltySession
 unfolding ran lastAnswer
 penalty-session = refl

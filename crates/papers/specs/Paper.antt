@@ -1,5 +1,5 @@
--- Two sessions of the papers, the files in docs/session. They are computed by the definitions, from bytes to bytes (proofs/Paper:
--- worked-session, penalty-session).
+-- Two sessions, the files in docs/session: document 01's, and an example for document 02, (ii). They are computed by the definitions, from
+-- bytes to bytes (proofs/Paper: worked-session, penalty-session).
 use mathlib.Core.List.{List, [], _∷_}
 use Rattle.papers.specs.Exchanges.{Exchange, line}
 
@@ -18,8 +18,8 @@ paperSession =
     ∷ line " 5             7   14295139992             0             0             0             0" "14             0             0             0"
     ∷ []
 
--- document 02's, (ii), on the same line: after the brake at speed 2,534 the report of 100 gets brake too, where document 01 had drive with
--- 2,176. Reported with speed 0, the train drives.
+-- an example for document 02, (ii), which has none, on the same line: after the brake at speed 2,534 the report of 100 gets brake too, where
+-- document 01 had drive with 2,176. Reported with speed 0, the train drives.
 abbrev pub penaltySession : List Exchange
 penaltySession =
     line " 1  200000000000    8000000000      26822400          3726             0             0" " 0             0             0             0"
