@@ -11,10 +11,10 @@ use mathlib.Core.Option.{some}
 use mathlib.Core.Path.{_≡_, refl, sym, ap, _∙_}
 use native.Mathlib.Decide.{decLt}
 use native.Mathlib.Omega.{arith}
-use lib.ListN.{length, length-append}
+use lib.ListN.{length}
 use Rattle.logic.proofs.Tests.{by-test}
 use Rattle.brake.specs.Consist.{Sound}
-use Rattle.brake.proofs.Sentences.{Described, figures-exactly}
+use Rattle.brake.proofs.Sentences.{Described}
 use Rattle.motion.specs.declared.Motion.{Motion}
 use Rattle.motion.specs.declared.Order.{Order}
 use Rattle.motion.specs.declared.Order.the-variants.{Drive, Brake}
@@ -47,9 +47,7 @@ use Rattle.line.specs.Step.{outcome, openStep}
 use Rattle.line.proofs.Steps.{step}
 use Rattle.line.proofs.Rules.{own-step}
 use Rattle.safety.specs.History.{Deed, history, after, Told, told}
-use Rattle.safety.specs.Claim.{recordOf}
-use Rattle.safety.proofs.Line.{lined-among}
-use Rattle.safety.proofs.Tables.{agrees-count, agrees-train}
+use Rattle.safety.proofs.Plain.{demand-3-plainly}
 use Rattle.safety.proofs.Calls.{agrees}
 use Rattle.safety.proofs.Bounds.{tells, always-computable, report-judged}
 
@@ -71,14 +69,9 @@ module _ (o : Opening) (t : Table) (opened : openStep o ≡ outcome (Accepted Ze
   -- class that it entered with
   pub figures : (ahead : List Told) (y : Told) (others : List Told) → told o (history t ds) .trains ≡ ahead ++ (y ∷ others)
       → let x = trainAt now (length ahead) in (x .length ≡ y .entry .length) × Described (y .entry .load) (y .entry .length) (x .figures)
-  unfolding recordOf
   figures ahead y others e =
-      let A = agrees o t opened ds in
-      let l = told o (history t ds) in
-      let count = agrees-count o l now A ∙ ap length e ∙ length-append ahead (y ∷ others) in
-      let (there, consist) = lined-among (now .settings) _ ahead y others (rw e at (A .lined)) in
-      let here = (rw e at (agrees-train o l now A (length ahead) (omega arith))) ∙ there in
-      rw here (refl, figures-exactly _ _ _ .0 consist)
+      let (claimed, tabled) = demand-3-plainly o t opened ds in
+      rw (tabled .trains ahead y others e) (refl, claimed .consists ahead y others e)
 
   -- ---- a train on the line
 

@@ -5,7 +5,6 @@ use mathlib.Core.Option.{Option, none, some, Option·map}
 use mathlib.Core.List.{List, [], _∷_}
 use mathlib.Core.Path.{_≡_, refl, subst}
 use native.Mathlib.Omega.{arith}
-use Rattle.logic.specs.Options.{isSome}
 use Rattle.motion.proofs.Slowing.{slowed-stands}
 use Rattle.calls.specs.declared.Opening.{Opening}
 use Rattle.train.specs.declared.Settings.{Settings}
@@ -24,20 +23,6 @@ use Rattle.safety.proofs.Acts.{Slowing, Steady}
 use Rattle.safety.proofs.Line.{Lined, firstLimit, behind}
 use Rattle.safety.proofs.Tables.{agrees-count}
 use Rattle.safety.proofs.Calls.{agrees}
-
--- the record that a history tells, field by field: "Length is the entered one. Head and speed are those of its last accepted report"
-pub record-told : (x : Told) → recordOf x
-    ≡ record {
-      id = x .entry .id;
-      length = x .entry .length;
-      figures = x .figures;
-      motion = record { head = x .now .last .head; speed = x .now .last .speed; level = x .now .level };
-      order = x .now .order;
-      authority = x .now .authority;
-      marks = record { held = isSome (x .now .counts .held); penalty = isSome (x .now .counts .braked) };
-    }
-unfolding recordOf
-record-told x = refl
 
 rear-head : (x : Told) → rearOf x ≤ x .now .last .head
 unfolding rearOf

@@ -9,8 +9,6 @@ use lib.ListN.{length, getD, set, drop}
 use lib.Dec.{eqb}
 use borrow.Author.Tests.{eq-eqb, ne-eqb}
 use Rattle.logic.proofs.Tests.{by-test}
-use Rattle.brake.specs.declared.FiguresFound.the-variants.{Given}
-use Rattle.brake.specs.Consist.{figuresOf}
 use Rattle.calls.specs.declared.Act.{Act}
 use Rattle.calls.specs.declared.Answer.the-variants.{Accepted}
 use Rattle.calls.specs.declared.Numbers.{Numbers}
@@ -59,12 +57,6 @@ lined-at σ limit (x ∷ xs) zero l h = record { train = x; here = refl; steady 
 lined-at σ limit (x ∷ xs) (suc i) l h =
     let p = lined-at σ (behind σ x) xs i (l .2) (omega arith) in
     record { train = p .train; here = p .here; steady = p .steady }
-
--- a train that the list tells, with so many ahead of it: its record stands at that place, with the figures of what was entered
-pub lined-among : (σ : Settings) (limit : Limit) (ahead : List Told) (x : Told) (others : List Told) → Lined σ limit (ahead ++ (x ∷ others))
-    → (getD (map recordOf (ahead ++ (x ∷ others))) (length ahead) blankTrain ≡ recordOf x) × (figuresOf (x .entry .load) (x .entry .length) ≡ Given (x .figures))
-lined-among σ limit [] x others l = (refl, l .0 .consist)
-lined-among σ limit (a ∷ ahead) x others l = lined-among σ (behind σ a) ahead x others (l .2)
 
 -- ---- another limit
 

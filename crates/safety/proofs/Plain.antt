@@ -2,18 +2,21 @@
 -- accepted act tells of its train. A claim that is weaker, or words that tell less, are refused here for every number.
 -- Assumes nothing.
 use Prim.Native.Nat.{ℕ, _+_, _*_, _≤_, _<_}
-use mathlib.Core.List.{List, [], _∷_, _++_}
+use mathlib.Core.List.{List, [], _∷_, _++_, map}
 use mathlib.Core.Option.{Option, none, some}
-use mathlib.Core.Path.{_≡_, refl, subst}
+use mathlib.Core.Path.{_≡_, refl, subst, ap, _∙_}
 use native.Mathlib.Numerals.{add-one}
 use native.Mathlib.Omega.{arith}
 use lib.Dec.{eqb}
+use lib.ListN.{length, getD, length-append}
 use borrow.Author.Tests.{eq-eqb, ne-eqb, eqb-true}
+use Rattle.logic.specs.Options.{isSome}
 use Rattle.logic.proofs.Tests.{by-test}
 use Rattle.logic.proofs.Rounding.{RoundedUp}
 use Rattle.brake.specs.declared.Figures.{Figures}
 use Rattle.brake.specs.Consist.{Sound}
 use Rattle.brake.proofs.Consist.{given-sound}
+use Rattle.brake.proofs.Sentences.{Described, figures-exactly}
 use Rattle.motion.specs.Motion.{stands}
 use Rattle.motion.proofs.OrderSentences.{cycles-counted}
 use Rattle.calls.specs.declared.Opening.{Opening}
@@ -24,11 +27,14 @@ use Rattle.calls.specs.declared.Act.the-variants.{Report, Extend, CallBack, Hol
 use Rattle.calls.specs.declared.Numbers.{Numbers}
 use Rattle.calls.specs.declared.Answer.the-variants.{Accepted}
 use Rattle.calls.specs.declared.Values.the-variants.{Zeros}
+use Rattle.train.specs.declared.Train.{Train}
 use Rattle.train.specs.Track.{stepsOf}
 use Rattle.table.specs.declared.Table.{Table}
+use Rattle.table.specs.Table.{blankTrain, trainAt}
+use Rattle.table.proofs.Trains.{train-on-line}
 use Rattle.line.specs.Step.{outcome, openStep}
-use Rattle.safety.specs.History.{Deed, history, State, Told, toldEntering, toldAct, told, rearOf}
-use Rattle.safety.specs.Claim.{countedReports, Stands, Alone, Clear, Safe, Claim}
+use Rattle.safety.specs.History.{Deed, history, after, State, Told, toldEntering, toldAct, told, rearOf}
+use Rattle.safety.specs.Claim.{countedReports, Stands, Alone, Clear, Safe, Claim, recordOf, Demand3}
 use Rattle.safety.proofs.Demand3.{demand-3}
 
 -- ---- the count
@@ -42,6 +48,8 @@ count-exactly o x n m sound growing slowing = let cycles = cycles-counted (x .fi
 
 -- of the trains xs on the line that o opened, front train first: `ahead` are those ahead of a train, and `others` those behind it
 pub record Plainly (o : Opening) (xs : List Told) : Type 0 where
+  -- "Brake force, application time ... equal the definitions": for the load class and the length that were entered
+  pub consists : (ahead : List Told) (x : Told) (others : List Told) → xs ≡ ahead ++ (x ∷ others) → Described (x .entry .load) (x .entry .length) (x .figures)
   -- "every head on the line is at or before its end of authority"
   pub heads : (ahead : List Told) (x : Told) (others : List Told) → xs ≡ ahead ++ (x ∷ others) → x .now .last .head ≤ x .now .authority .end
   -- "every end lies at least the safety distance behind the rear ahead"; "A train's rear is its head minus its length"; "1 ft is 6,096,000"
@@ -85,6 +93,7 @@ module _ (o : Opening) where
   unfolding rearOf stepsOf
   plainly xs safe =
       record {
+        consists = λ ahead x others e. figures-exactly _ _ _ .0 (there ahead x others e .alone .consist);
         heads = λ ahead x others e. there ahead x others e .alone .head-within-end;
         ends =
             λ ahead a x others e.
@@ -106,10 +115,59 @@ module _ (o : Opening) where
       there : (ahead : List Told) (x : Told) (others : List Told) → xs ≡ ahead ++ (x ∷ others) → At x others
       there ahead x others e = at none ahead x others (subst (Safe o none) e safe)
 
+-- "the table after the list agrees with them": with the settings that o opened, and with a record for each of the trains xs
+pub record TableOf (o : Opening) (xs : List Told) (t : Table) : Type 0 where
+  pub end : t .settings .end ≡ o .end
+  pub safety : t .settings .safety ≡ o .safety
+  pub ceiling : t .settings .maxima .ceiling ≡ o .ceiling
+  pub traction : t .settings .maxima .traction ≡ o .traction
+  pub count : t .count ≡ length xs
+  -- "Length is the entered one. Head and speed are those of its last accepted report"
+  pub trains : (ahead : List Told) (x : Told) (others : List Told) → xs ≡ ahead ++ (x ∷ others)
+      → trainAt t (length ahead)
+      ≡ record {
+        id = x .entry .id;
+        length = x .entry .length;
+        figures = x .figures;
+        motion = record { head = x .now .last .head; speed = x .now .last .speed; level = x .now .level };
+        order = x .now .order;
+        authority = x .now .authority;
+        marks = record { held = isSome (x .now .counts .held); penalty = isSome (x .now .counts .braked) };
+      }
+
+among : (ahead : List Told) (x : Told) (others : List Told) → getD (map recordOf (ahead ++ (x ∷ others))) (length ahead) blankTrain ≡ recordOf x
+among [] x others = refl
+among (a ∷ ahead) x others = among ahead x others
+
+module _ (o : Opening) (t : Table) (ds : List Deed) (d : Demand3 o t ds) where
+  abbrev xs : List Told
+  xs = told o (history t ds) .trains
+
+  pub claimed : Plainly o xs
+  unfolding Claim
+  claimed = plainly o xs (d .claim)
+
+  pub tabled : TableOf o xs (after t ds)
+  unfolding recordOf
+  tabled =
+      record {
+        end = d .settings .end;
+        safety = d .settings .safety;
+        ceiling = d .settings .ceiling;
+        traction = d .settings .traction;
+        count = d .count;
+        trains =
+            λ ahead x others e.
+            let below : length ahead < after t ds .count = omega (arith, d .count ∙ ap length e, length-append ahead (x ∷ others)) in
+            train-on-line (after t ds) (length ahead) below
+            ∙ ap (λ (ys : List Train). getD ys (length ahead) blankTrain) (d .trains ∙ ap (map recordOf) e)
+            ∙ among ahead x others;
+      }
+
 -- after every list of deeds on the table that an accepted opening made
-pub demand-3-plainly : (o : Opening) (t : Table) → openStep o ≡ outcome (Accepted Zeros) t → (ds : List Deed) → Plainly o (told o (history t ds) .trains)
-unfolding Claim
-demand-3-plainly o t opened ds = plainly o (told o (history t ds) .trains) (demand-3 o t opened ds .claim)
+pub demand-3-plainly : (o : Opening) (t : Table) → openStep o ≡ outcome (Accepted Zeros) t → (ds : List Deed)
+    → let xs = told o (history t ds) .trains in Plainly o xs × TableOf o xs (after t ds)
+demand-3-plainly o t opened ds = let d = demand-3 o t opened ds in (claimed o t ds d, tabled o t ds d)
 
 -- ---- what is counted
 

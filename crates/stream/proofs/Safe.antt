@@ -21,10 +21,11 @@ use Rattle.line.specs.declared.Decision.{Decision}
 use Rattle.line.specs.Decide.{openDecision, decideOn, decided}
 use Rattle.line.specs.Step.{carriedOut, requested, noTable, openStep}
 use Rattle.line.proofs.Steps.{open-taken, open-refused}
-use Rattle.safety.specs.History.{Deed, Event, history}
+use Rattle.safety.specs.History.{Deed, Event, history, told}
 use Rattle.safety.specs.History as History
 use Rattle.safety.proofs.Calls.{event}
 use Rattle.safety.proofs.Demand3.{demand-3}
+use Rattle.safety.proofs.Plain.{Plainly, TableOf, claimed, tabled}
 use Rattle.wire.specs.Format.{lineRead}
 use Rattle.stream.specs.declared.Session.{Session}
 use Rattle.stream.specs.declared.Reply.{Reply}
@@ -140,3 +141,10 @@ pub session-safe : (ls : List (List ℕ)) → (after closed ls ≡ closed) ⊎ O
 unfolding after
 session-safe [] = inl refl
 session-safe (l ∷ ls) = safe-line l ls (lineRead l) refl (session-safe ls)
+
+-- In the second case, in numbers and fields (safety/proofs/Plain): of the trains that the lines since the opening tell of, by what they ask and
+-- by what they are answered, and of the table of the session after all lines.
+pub session-plainly : (ls : List (List ℕ)) (w : Opened ls) → let xs = told (w .given) (eventsIn (session true (w .table)) (w .since)) .trains in
+    Plainly (w .given) xs × TableOf (w .given) xs (after closed ls .table) × (after closed ls .opened ≡ true)
+session-plainly ls w =
+    rw (w .events, w .now) (claimed (w .given) (w .table) (deedsIn (w .since)) (w .demand), tabled (w .given) (w .table) (deedsIn (w .since)) (w .demand), refl)
