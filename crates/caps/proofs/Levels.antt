@@ -1,20 +1,25 @@
 -- Document 02, (iv), said a second time: the list in products, as far as it is B and from there on; and that it holds the levels which the
 -- brake has cycle by cycle, so that stop travel read from it is stop travel.
 -- Assumes nothing.
-use Prim.Native.Nat.{ℕ, zero, suc, _+_, _*_, _≤_, _<_}
-use mathlib.Core.List.{List, _∷_}
+use Prim.Native.Nat.{ℕ, zero, suc, _+_, _-_, _*_, _≤_, _<_}
+use mathlib.Core.List.{List, [], _∷_, _++_}
+use mathlib.Core.Logic.{by-cases}
 use mathlib.Core.Path.{_≡_, refl, sym, _∙_, ap}
-use native.Mathlib.Nat.{mul-le-mul-left, mul-le-mul-right}
+use native.Mathlib.Decide.{decLt}
+use native.Mathlib.Nat.{mul-le-mul-left, mul-le-mul-right, lt-of-mul-lt-mul-right}
 use native.Mathlib.Omega.{arith}
+use lib.ListN.{length, getD, length-append, List·getD-append}
+use lib.Seq.{getD-at}
 use Rattle.brake.specs.declared.Figures.{Figures}
 use Rattle.brake.specs.declared.FiguresFound.the-variants.{Given}
-use Rattle.brake.specs.Consist.{figuresOf}
-use Rattle.brake.proofs.Consist.{cycles-most}
+use Rattle.brake.specs.Consist.{Sound, figuresOf}
+use Rattle.brake.proofs.Consist.{cycles-most, given-sound}
 use Rattle.brake.proofs.Sentences.{PerCar, loaded, empty, unknown, cycles-described, figures-exactly}
-use Rattle.logic.proofs.Rounding.{RoundedDown, RoundedUp}
+use Rattle.logic.proofs.Rounding.{RoundedDown, RoundedUp, ceil-le, rounded-up, rounded-once}
 use Rattle.logic.proofs.Tests.{by-test}
 use Rattle.motion.specs.Motion.{brakeSpeed, nextLevel, stands, Cycle, brakedCycle, firstCycles, enoughCycles, brakedRun, totalTravel, stoppingDistance}
-use Rattle.caps.specs.Levels.{levelEntry, readCycles, stopRead}
+use Rattle.motion.specs.Count.{cyclesToFull}
+use Rattle.caps.specs.Levels.{levelEntry, firstEntries, levelList, entryOf, readCycles, stopRead}
 
 -- ---- the entries
 
@@ -43,19 +48,95 @@ pub entry-repeats : (k : Figures) (n i : ℕ) → levelEntry k n ≡ k .full →
 unfolding levelEntry
 entry-repeats k n i e h = let more = mul-le-mul-right (k .growth) h in omega arith
 
+-- ---- how a list is read
+
+-- what stands there
+pub read-within : (list : List ℕ) (i : ℕ) → i < length list → entryOf list i ≡ getD list i 0
+unfolding entryOf
+read-within list i h = ap (λ (place : ℕ). getD list place 0) (omega arith)
+
+-- past its end the last one
+pub read-past : (list : List ℕ) (i : ℕ) → length list ≤ i → entryOf list i ≡ getD list (length list - 1) 0
+unfolding entryOf
+read-past list i h = ap (λ (place : ℕ). getD list place 0) (omega arith)
+
+-- ---- the list
+
+first-length : (k : Figures) (n : ℕ) → length (firstEntries k n) ≡ n
+unfolding firstEntries
+first-length k zero = refl
+first-length k (suc n) = length-append (firstEntries k n) (levelEntry k n ∷ []) ∙ let before = first-length k n in omega arith
+
+first-entry : (k : Figures) (n i : ℕ) → i < n → getD (firstEntries k n) i 0 ≡ levelEntry k i
+unfolding firstEntries
+first-entry k zero i h = absurd (omega arith)
+first-entry k (suc n) i h =
+    let size = first-length k n in
+    by-cases (decLt i n)
+    (λ before. List·getD-append (firstEntries k n) _ 0 i (omega arith) ∙ first-entry k n i before)
+    (λ last. let e : i ≡ n = omega arith in rw e (getD-at (firstEntries k n) (levelEntry k n) [] 0 n size))
+
+-- an entry of it is that of its place
+list-entry : (k : Figures) (i : ℕ) → i < length (levelList k) → getD (levelList k) i 0 ≡ levelEntry k i
+unfolding levelList
+list-entry k i h = first-entry k _ i (rw first-length at h)
+
+module _ (k : Figures) (s : Sound k) where
+  -- it has n + 1 entries, where n is B/j, rounded up
+  pub list-length : (n : ℕ) → RoundedUp n (k .full) (k .growth) → length (levelList k) ≡ n + 1
+  unfolding levelList
+  list-length n up = first-length k _ ∙ ap (λ (m : ℕ). m + 1) (rounded-once n _ _ (s .growth-positive) up)
+
+  -- the last is B, and none before it is
+  pub list-first : (n : ℕ) → RoundedUp n (k .full) (k .growth) → (getD (levelList k) n 0 ≡ k .full) × ((i : ℕ) → i < n → getD (levelList k) i 0 < k .full)
+  list-first n up =
+      let size = list-length n up in
+      let first = entry-first k n up in
+      (list-entry k n (omega arith) ∙ first .0, λ i h. rw (list-entry k i (omega arith)) (first .1 i h))
+
+  to-full : RoundedUp (cyclesToFull k) (k .full) (k .growth)
+  to-full = rounded-up (k .full) (k .growth) (s .growth-positive)
+
+  -- entry i is i×j, while that is at most B
+  pub list-grown : (i : ℕ) → i * k .growth ≤ k .full → getD (levelList k) i 0 ≡ i * k .growth
+  list-grown i h =
+      let within : i < cyclesToFull k + 1 = lt-of-mul-lt-mul-right (k .growth) (omega (arith, to-full .enough, s .growth-positive)) in
+      list-entry k i (omega (arith, list-length _ to-full)) ∙ entry-grown k i h
+
+  -- where entry i is B, it goes no further
+  pub list-ends : (i : ℕ) → levelEntry k i ≡ k .full → length (levelList k) ≤ i + 1
+  unfolding levelEntry
+  list-ends i e = let last = ceil-le {a = k .full} i (s .growth-positive) (omega arith) in omega (arith, list-length _ to-full)
+
+  -- "the first B, which then repeats": past its end too, B is read
+  pub list-repeats : (i : ℕ) → length (levelList k) ≤ i → entryOf (levelList k) i ≡ k .full
+  list-repeats i h =
+      let last : length (levelList k) - 1 ≡ cyclesToFull k = omega (arith, list-length _ to-full) in
+      read-past (levelList k) i h ∙ rw last (list-first _ to-full .0)
+
+  -- so what is read is the entry, in the list and past its end
+  entry-read : (i : ℕ) → entryOf (levelList k) i ≡ levelEntry k i
+  entry-read i =
+      by-cases (decLt i (length (levelList k)))
+      (λ within. read-within (levelList k) i within ∙ list-entry k i within)
+      (λ past. list-repeats i (omega arith) ∙ sym (entry-repeats k _ i (entry-first k _ to-full .0) (omega (arith, list-length _ to-full))))
+
+-- ---- a consist's list
+
 -- with no more than 1,961 cycles B is within 1,990 growths, whatever the class
 growths-most : {load force mass : ℕ} (full growth : ℕ) → PerCar load force mass → RoundedDown full (force * 980665) mass → full < (growth + 1) * 1961 → full ≤ 1990 * growth
 growths-most full growth loaded b h = omega (arith, b .within, b .next-exceeds)
 growths-most full growth empty b h = omega (arith, b .within, b .next-exceeds)
 growths-most full growth unknown b h = omega (arith, b .within, b .next-exceeds)
 
--- a consist's list has its first B at entry 1,990 at the latest: 1,991 entries, and no list is longer
-pub list-within : (load l : ℕ) (k : Figures) → figuresOf load l ≡ Given k → levelEntry k 1990 ≡ k .full
+-- entry 1,990 is B in each, so it has 1,991 entries at most
+pub list-within : (load l : ℕ) (k : Figures) → figuresOf load l ≡ Given k → (levelEntry k 1990 ≡ k .full) × (length (levelList k) ≤ 1991)
 list-within load l k e =
     let d = figures-exactly load l k .0 e in
     let few : d .cycles ≤ 1961 = rw (cycles-described d) at (cycles-most l (d .longest)) in
     let more : (k .growth + 1) * d .cycles ≤ (k .growth + 1) * 1961 = mul-le-mul-left (k .growth + 1) few in
-    entry-full k 1990 (growths-most (k .full) (k .growth) (d .per-car) (d .full-brake) (omega (arith, d .growth .next-exceeds)))
+    let full = entry-full k 1990 (growths-most (k .full) (k .growth) (d .per-car) (d .full-brake) (omega (arith, d .growth .next-exceeds))) in
+    (full, list-ends k (given-sound load l k e) 1990 full)
 
 -- ---- the brake's levels
 
@@ -70,15 +151,17 @@ unfolding levelEntry nextLevel
 entry-next k i = omega arith
 
 -- so the cycles read from the list are the cycles of the brake
-read-cycles : (n : ℕ) (k : Figures) (v i : ℕ) → readCycles n k v i ≡ firstCycles n k v (levelEntry k i)
+read-cycles : (k : Figures) → Sound k → (n v i : ℕ) → readCycles n k (levelList k) v i ≡ firstCycles n k v (levelEntry k i)
 unfolding readCycles firstCycles
-read-cycles zero k v i = refl
-read-cycles (suc n) k v i =
+read-cycles k s zero v i = refl
+read-cycles k s (suc n) v i =
     by-test (stands k v (levelEntry k i))
-    (λ e. rw (e, readCycles, firstCycles))
-    (λ e. rw (e, readCycles, firstCycles, sym (entry-next k i)) (ap (λ (cs : List Cycle). brakedCycle k v (levelEntry k i) ∷ cs) (read-cycles n k (brakeSpeed k v (levelEntry k i)) (i + 1))))
+    (λ e. rw (readCycles, entry-read k s i, e, firstCycles))
+    (λ e.
+    rw (readCycles, entry-read k s i, e, entry-read k s i, firstCycles, sym (entry-next k i))
+    (ap (λ (cs : List Cycle). brakedCycle k v (levelEntry k i) ∷ cs) (read-cycles k s n (brakeSpeed k v (levelEntry k i)) (i + 1))))
 
 -- "Stop travel from level 0 read from this list equals the definition at every speed"
-pub read-stop : (k : Figures) (v : ℕ) → stopRead k v ≡ stoppingDistance k v 0
+pub read-stop : (k : Figures) → Sound k → (v : ℕ) → stopRead k (levelList k) v ≡ stoppingDistance k v 0
 unfolding stopRead stoppingDistance brakedRun
-read-stop k v = ap totalTravel (read-cycles (enoughCycles k v 0) k v 0 ∙ ap (firstCycles (enoughCycles k v 0) k v) (entry-none k))
+read-stop k s v = ap totalTravel (read-cycles k s (enoughCycles k v 0) v 0 ∙ ap (firstCycles (enoughCycles k v 0) k v) (entry-none k))

@@ -7,7 +7,7 @@ ghost use Rattle.motion.specs.Orders.{reach, keepsGoal, greatest, orderFor};
 ghost use Rattle.motion_code.specs.Offers.{offer};
 ghost use Rattle.motion.specs.declared.Order.the-variants.{Drive};
 ghost use Rattle.motion.specs.Bounds.{Braking, Driving, Bounded};
-ghost use Rattle.caps.specs.Levels.{levelEntry, stopRead};
+ghost use Rattle.caps.specs.Levels.{levelEntry, levelList, stopRead};
 ghost use Rattle.caps_code.specs.Search.{CapsAllowed, longestList, Listed, ListedTo, Beyond, Kept, Apart, Next};
 use brake::Figures;
 use motion::Maxima;
@@ -99,7 +99,7 @@ fn list_levels(k: Figures, v: u64, list: &mut [u64]) -> usize
 // Stop travel from speed v and level 0, read from the list. Past its end the run goes on by itself: from the first B on the level stays.
 fn stop_read(k: Figures, list: &[u64], v: u64) -> u64
     requires { ⌜ Braking k v 0 × Listed k (now list) ⌝ }
-    ensures { λ r. ⌜ r ≡ stopRead k v ⌝ }
+    ensures { λ r. ⌜ r ≡ stopRead k (levelList k) v ⌝ }
 {
     let mut speeds: u64 = 0;
     let mut speed = v;

@@ -59,7 +59,7 @@ add-result : tie.Need-add-result Inv-loop μ-loop
 add-result c = omega (arith, all c, stop-fits _ _ _ (c .before .before .before .before .before .before .before .before .pre .0))
 
 returns : tie.Need-returns Inv-loop μ-loop
-returns c = all c ∙ sym (read-stop _ _)
+returns c = all c ∙ sym (read-stop _ (c .before .before .before .before .before .before .before .before .pre .0 .figures) _)
 
 -- one cycle more
 next : (c : tie.Else1 Inv-loop μ-loop) → let t = c .before .before in let a = t .before .before .before .before .args in let l = t .before .before .loop in
@@ -108,7 +108,7 @@ add-result-2 : tie.Need-add-result-2 Inv-loop μ-loop
 add-result-2 c = omega (arith, all-past c, stop-fits _ _ _ (c .before .before .before .before .before .before .pre .0))
 
 returns-2 : tie.Need-returns-2 Inv-loop μ-loop
-returns-2 c = all-past c ∙ sym (read-stop _ _)
+returns-2 c = all-past c ∙ sym (read-stop _ (c .before .before .before .before .before .before .pre .0 .figures) _)
 
 pub stop-read-spec : {M : Type 1} → statement M
 stop-read-spec =

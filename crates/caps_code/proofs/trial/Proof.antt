@@ -23,14 +23,14 @@ add-result c =
     let a = w .before .before .args in
     let head = worst-head (a .k) (a .m) (Drive (a .c)) (w .before .before .pre .0) in
     let stop = stop-fits _ _ _ (worst (w .before)) in
-    rw (c .stop-read .ensures, w .worst-case .ensures, read-stop (a .k) (worstCase (a .k) (a .m) (Drive (a .c)) .speed)) (omega arith)
+    rw (c .stop-read .ensures, w .worst-case .ensures, read-stop (a .k) (w .before .before .pre .0 .figures) (worstCase (a .k) (a .m) (Drive (a .c)) .speed)) (omega arith)
 
 returns : tie.Need-returns
 unfolding stoppingPlace
 returns c =
     let w = c .before in
     let a = w .before .before .args in
-    rw (c .stop-read .ensures, w .worst-case .ensures, read-stop (a .k) (worstCase (a .k) (a .m) (Drive (a .c)) .speed))
+    rw (c .stop-read .ensures, w .worst-case .ensures, read-stop (a .k) (w .before .before .pre .0 .figures) (worstCase (a .k) (a .m) (Drive (a .c)) .speed))
 
 pub trial-spec : {M : Type 1} → statement M
 trial-spec = tie.close (tie.spec (λ c κs. search needs) stop-read-requires add-result returns)
