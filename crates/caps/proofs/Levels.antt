@@ -10,6 +10,7 @@ use native.Mathlib.Nat.{mul-le-mul-left, mul-le-mul-right, lt-of-mul-lt-mul-righ
 use native.Mathlib.Omega.{arith}
 use lib.ListN.{length, getD, length-append, List·getD-append}
 use lib.Seq.{getD-at}
+use borrow.Author.Tests.{eq-eqb}
 use Rattle.brake.specs.declared.Figures.{Figures}
 use Rattle.brake.specs.declared.FiguresFound.the-variants.{Given}
 use Rattle.brake.specs.Consist.{Sound, figuresOf}
@@ -19,6 +20,7 @@ use Rattle.logic.proofs.Rounding.{RoundedDown, RoundedUp, ceil-le, rounded-up, 
 use Rattle.logic.proofs.Tests.{by-test}
 use Rattle.motion.specs.Motion.{brakeSpeed, nextLevel, stands, Cycle, brakedCycle, firstCycles, enoughCycles, brakedRun, totalTravel, stoppingDistance}
 use Rattle.motion.specs.Count.{cyclesToFull}
+use Rattle.motion.proofs.Runs.{run-stands, run-moves}
 use Rattle.caps.specs.Levels.{levelEntry, firstEntries, levelList, entryOf, readCycles, stopRead}
 
 -- ---- the entries
@@ -121,23 +123,6 @@ module _ (k : Figures) (s : Sound k) where
       (λ within. read-within (levelList k) i within ∙ list-entry k i within)
       (λ past. list-repeats i (omega arith) ∙ sym (entry-repeats k _ i (entry-first k _ to-full .0) (omega (arith, list-length _ to-full))))
 
--- ---- a consist's list
-
--- with no more than 1,961 cycles B is within 1,990 growths, whatever the class
-growths-most : {load force mass : ℕ} (full growth : ℕ) → PerCar load force mass → RoundedDown full (force * 980665) mass → full < (growth + 1) * 1961 → full ≤ 1990 * growth
-growths-most full growth loaded b h = omega (arith, b .within, b .next-exceeds)
-growths-most full growth empty b h = omega (arith, b .within, b .next-exceeds)
-growths-most full growth unknown b h = omega (arith, b .within, b .next-exceeds)
-
--- entry 1,990 is B in each, so it has 1,991 entries at most
-pub list-within : (load l : ℕ) (k : Figures) → figuresOf load l ≡ Given k → (levelEntry k 1990 ≡ k .full) × (length (levelList k) ≤ 1991)
-list-within load l k e =
-    let d = figures-exactly load l k .0 e in
-    let few : d .cycles ≤ 1961 = rw (cycles-described d) at (cycles-most l (d .longest)) in
-    let more : (k .growth + 1) * d .cycles ≤ (k .growth + 1) * 1961 = mul-le-mul-left (k .growth + 1) few in
-    let full = entry-full k 1990 (growths-most (k .full) (k .growth) (d .per-car) (d .full-brake) (omega (arith, d .growth .next-exceeds))) in
-    (full, list-ends k (given-sound load l k e) 1990 full)
-
 -- ---- the brake's levels
 
 -- a brake that builds up from nothing starts at entry 0
@@ -165,3 +150,64 @@ read-cycles k s (suc n) v i =
 pub read-stop : (k : Figures) → Sound k → (v : ℕ) → stopRead k (levelList k) v ≡ stoppingDistance k v 0
 unfolding stopRead stoppingDistance brakedRun
 read-stop k s v = ap totalTravel (read-cycles k s (enoughCycles k v 0) v 0 ∙ ap (firstCycles (enoughCycles k v 0) k v) (entry-none k))
+
+-- ---- a consist's list
+
+-- B is at least 87,021, whatever the class; with no more than 1,961 cycles it is within 1,990 growths
+full-bounds : {load force mass : ℕ} (full growth : ℕ) → PerCar load force mass → RoundedDown full (force * 980665) mass → full < (growth + 1) * 1961
+    → (87021 ≤ full) × (full ≤ 1990 * growth)
+full-bounds full growth loaded b h = (omega (arith, b .next-exceeds), omega (arith, b .within, b .next-exceeds))
+full-bounds full growth empty b h = (omega (arith, b .next-exceeds), omega (arith, b .within, b .next-exceeds))
+full-bounds full growth unknown b h = (omega (arith, b .next-exceeds), omega (arith, b .within, b .next-exceeds))
+
+-- what holds of every consist's B and j
+record Built (k : Figures) : Type 0 where
+  sound : Sound k
+  full-least : 87021 ≤ k .full
+  growth-least : 44 ≤ k .growth
+  growths-most : k .full ≤ 1990 * k .growth
+
+built : (load l : ℕ) (k : Figures) → figuresOf load l ≡ Given k → Built k
+built load l k e =
+    let d = figures-exactly load l k .0 e in
+    let few : d .cycles ≤ 1961 = rw (cycles-described d) at (cycles-most l (d .longest)) in
+    let more : (k .growth + 1) * d .cycles ≤ (k .growth + 1) * 1961 = mul-le-mul-left (k .growth + 1) few in
+    let full = full-bounds (k .full) (k .growth) (d .per-car) (d .full-brake) (omega (arith, d .growth .next-exceeds)) in
+    record { sound = given-sound load l k e; full-least = full .0; growth-least = omega (arith, d .growth .next-exceeds); growths-most = full .1 }
+
+-- entry 1,990 is B, so its list has 1,991 entries at most
+pub list-within : (load l : ℕ) (k : Figures) → figuresOf load l ≡ Given k → (levelEntry k 1990 ≡ k .full) × (length (levelList k) ≤ 1991)
+list-within load l k e =
+    let figures = built load l k e in
+    let full = entry-full k 1990 (figures .growths-most) in
+    (full, list-ends k (figures .sound) 1990 full)
+
+-- ---- slow trains
+
+-- i + (i + 1) + .., n numbers in all
+sumFrom : ℕ → ℕ → ℕ
+sumFrom i zero = 0
+sumFrom i (suc n) = i + sumFrom (i + 1) n
+
+module _ (k : Figures) (b : Built k) where
+  -- 44×1,977 is at most 87,021
+  entry-least : (i : ℕ) → i ≤ 1977 → 44 * i ≤ levelEntry k i
+  unfolding levelEntry
+  entry-least i h = let more = mul-le-mul-left i (b .growth-least) in omega arith
+
+  -- so n entries from entry i on stop a train whose speed is at most 44 times the sum of their places
+  run-within : (n i v : ℕ) → i + n ≤ 1977 → v ≤ 44 * sumFrom i n → length (brakedRun k v (levelEntry k i)) ≤ n
+  unfolding sumFrom stands brakeSpeed
+  run-within zero i v h slow = rw (run-stands k v (levelEntry k i) (eq-eqb v 0 (omega arith))) (omega arith)
+  run-within (suc n) i v h slow =
+      by-test (stands k v (levelEntry k i))
+      (λ e. rw (run-stands k v (levelEntry k i) e) (omega arith))
+      (λ e.
+      let least = entry-least i (omega arith) in
+      let rest = run-within n (i + 1) (brakeSpeed k v (levelEntry k i)) (omega arith) (omega arith) in
+      rw (run-moves k v (levelEntry k i) (b .sound) e, sym (entry-next k i)) (omega arith))
+
+-- from 1,250,000 µm/s on down, no consist's run reads more than 240 entries
+pub slow-run : (load l : ℕ) (k : Figures) (v : ℕ) → figuresOf load l ≡ Given k → v ≤ 1250000 → length (brakedRun k v 0) ≤ 240
+unfolding sumFrom
+slow-run load l k v e slow = rw (entry-none k) at (run-within k (built load l k e) 240 0 v (omega arith) (omega arith))

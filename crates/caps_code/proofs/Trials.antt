@@ -1,7 +1,8 @@
--- The search for the greatest cap: which caps are allowed, where the search ends, and how many trials it takes.
+-- The search for the greatest cap: which caps are allowed, where the search ends, which list serves it, and how many trials it takes.
 -- Assumes nothing.
 use Prim.Native.Nat.{ℕ, zero, suc, _+_, _-_, _/_, _≤_, _<_}
 use mathlib.Core.Bool.{false}
+use mathlib.Core.List.{List}
 use mathlib.Core.Logic.{by-cases, _⊎_, inl, inr}
 use mathlib.Core.Path.{_≡_}
 use native.Mathlib.Decide.{decLe}
@@ -14,10 +15,13 @@ use Rattle.ranges.specs.Ranges.{greatestTraction}
 use Rattle.motion.specs.declared.Motion.{Motion}
 use Rattle.motion.specs.declared.Maxima.{Maxima}
 use Rattle.motion.specs.declared.Order.the-variants.{Drive, Brake}
+use Rattle.motion.specs.Motion.{driveSpeed}
 use Rattle.motion.specs.Orders.{reach, capFits, keepsGoal, greatest, orderFor}
+use Rattle.motion.proofs.Cycles.{drive-speed-mono}
+use Rattle.motion.proofs.Runs.{run-mono}
 use Rattle.motion.proofs.Greatest.{greatest-only, greatest-agree}
 use Rattle.motion.proofs.Orders.{reach-mono, fits-over, fits-under}
-use Rattle.caps_code.specs.Search.{CapsAllowed, guesses, Next}
+use Rattle.caps_code.specs.Search.{CapsAllowed, Enough, at-full, at-stand, Listed, guesses, Next}
 
 module _ (k : Figures) (l : Maxima) (goal : ℕ) (m : Motion) where
   -- no cap is allowed: brake
@@ -49,6 +53,21 @@ module _ (k : Figures) (goal : ℕ) (m : Motion) (s : Sound k) (high : ℕ) wher
   -- cap 0 does not keep it: then none does
   pub none-found : goal < reach k m (Drive 0) → greatest (keepsGoal k goal m) high ≡ Brake
   none-found over = greatest-only (keepsGoal k goal m) high Brake (λ d q. fails-above 0 d (omega arith) over)
+
+-- ---- the list
+
+-- n entries that are enough for a run are enough for a slower one
+enough-below : {k : Figures} {v v′ n : ℕ} → Sound k → v ≤ v′ → Enough k v′ n → Enough k v n
+enough-below s h (at-full e) = at-full e
+enough-below {k = k} s h (at-stand e) = at-stand (le-trans (run-mono k 0 s h) e)
+
+-- so the list for the greatest cap serves every cap below it
+pub listed-below : {k : Figures} (v : ℕ) {c d : ℕ} {list : List ℕ} → Sound k → c ≤ d → Listed k (driveSpeed k v d) list → Listed k (driveSpeed k v c) list
+listed-below {k = k} v s h l =
+    record {
+      room = record { most = l .room .most; enough = λ load f e. enough-below s (drive-speed-mono k (le-refl v) h) (l .room .enough load f e) };
+      entry = l .entry;
+    }
 
 -- ---- how many trials it takes
 

@@ -4,13 +4,15 @@ use mathlib.Core.List.{List}
 use mathlib.Core.Path.{_≡_}
 use lib.ListN.{length, getD, take}
 use Rattle.brake.specs.declared.Figures.{Figures}
+use Rattle.brake.specs.declared.FiguresFound.the-variants.{Given}
+use Rattle.brake.specs.Consist.{figuresOf}
 use Rattle.motion.specs.declared.Motion.{Motion}
 use Rattle.motion.specs.declared.Maxima.{Maxima}
 use Rattle.motion.specs.declared.Order.the-variants.{Drive}
 use Rattle.motion.specs.Motion.{driveSpeed, brakedRun}
 use Rattle.motion.specs.Orders.{reach}
 use Rattle.motion.specs.Bounds.{Bounded}
-use Rattle.caps.specs.Levels.{levelEntry}
+use Rattle.caps.specs.Levels.{levelEntry, levelList}
 
 -- ---- words of inner contracts
 
@@ -20,26 +22,33 @@ pub record CapsAllowed (k : Figures) (l : Maxima) (v n : ℕ) : Type 0 where
   pub keep : (c : ℕ) → c < n → driveSpeed k v c ≤ l .ceiling
   pub exceed : (c : ℕ) → n ≤ c → c ≤ l .traction → l .ceiling < driveSpeed k v c
 
--- No list of a consist is longer (caps/proofs/Levels: list-within).
+-- Places of the two arrays. The first is enough where few levels are read; no list of a consist is longer than the second
+-- (caps/proofs/Levels: slow-run, list-within).
+abbrev pub shortList : ℕ
+shortList = 240
+
 abbrev pub longestList : ℕ
 longestList = 1991
 
--- a list of levels, as far as it goes
-pub record Listed (k : Figures) (list : List ℕ) : Type 0 where
-  pub long : length list ≤ longestList
-  pub entry : (i : ℕ) → i < length list → getD list i 0 ≡ levelEntry k i
+-- n entries are enough for a run from speed v: the list has no more, or the run has no more cycles
+pub data Enough (k : Figures) (v n : ℕ) : Type 0 where
+  at-full : length (levelList k) ≤ n → Enough k v n
+  at-stand : length (brakedRun k v 0) ≤ n → Enough k v n
 
--- n entries are enough for a run from speed v: the last is B, or the run has no more cycles. Or there was room for no more.
-pub data Enough (k : Figures) (v room n : ℕ) : Type 0 where
-  at-full : (i : ℕ) → n ≡ i + 1 → levelEntry k i ≡ k .full → Enough k v room n
-  at-stand : length (brakedRun k v 0) ≤ n → Enough k v room n
-  at-room : n ≡ room → Enough k v room n
+-- room for n entries, which are enough for a run from speed v wherever the figures are a consist's. A list of other figures may be longer.
+pub record Room (k : Figures) (v n : ℕ) : Type 0 where
+  pub most : n ≤ longestList
+  pub enough : (load l : ℕ) → figuresOf load l ≡ Given k → Enough k v n
+
+-- a list of levels, as far as it goes, for a run from speed v
+pub record Listed (k : Figures) (v : ℕ) (list : List ℕ) : Type 0 where
+  pub room : Room k v (length list)
+  pub entry : (i : ℕ) → i < length list → getD list i 0 ≡ levelEntry k i
 
 -- the first n numbers are such a list
 pub record ListedTo (k : Figures) (v : ℕ) (list : List ℕ) (n : ℕ) : Type 0 where
   pub within : n ≤ length list
-  pub listed : Listed k (take n list)
-  pub enough : Enough k v (length list) n
+  pub listed : Listed k v (take n list)
 
 -- a search below the cap high, whose reach lies beyond the goal
 pub record Beyond (k : Figures) (goal : ℕ) (m : Motion) (high beyond : ℕ) : Type 0 where

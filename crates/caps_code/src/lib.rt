@@ -1,14 +1,16 @@
 // Works out the order of one train: the greatest cap that fits, or brake. Document 01, "Orders"; document 02, (iv).
+ghost use mathlib.Core.Bool.{true};
 ghost use mathlib.Core.Path.{_≡_};
 ghost use Prim.Native.Nat.{_≤_};
 ghost use lib.ListN.{length};
 ghost use Rattle.brake.specs.Consist.{Sound};
+ghost use Rattle.motion.specs.Motion.{driveSpeed};
 ghost use Rattle.motion.specs.Orders.{reach, keepsGoal, greatest, orderFor};
 ghost use Rattle.motion_code.specs.Offers.{offer};
 ghost use Rattle.motion.specs.declared.Order.the-variants.{Drive};
 ghost use Rattle.motion.specs.Bounds.{Braking, Driving, Bounded};
 ghost use Rattle.caps.specs.Levels.{levelEntry, levelList, stopRead};
-ghost use Rattle.caps_code.specs.Search.{CapsAllowed, longestList, Listed, ListedTo, Beyond, Kept, Apart, Next};
+ghost use Rattle.caps_code.specs.Search.{CapsAllowed, shortList, longestList, Room, Listed, ListedTo, Beyond, Kept, Apart, Next};
 use brake::Figures;
 use motion::Maxima;
 use motion::Motion;
@@ -18,9 +20,10 @@ use motion_code::Offer;
 // No consist's list of levels has more entries.
 const LONGEST_LIST: usize = 1991;
 
-// A short array costs less to clear. From this speed no consist's run has more cycles.
+// A short array costs less to clear.
 const SHORT_LIST: usize = 240;
 
+// From this speed on down, no consist's run has more cycles than the short array has places.
 const SLOW: u64 = 1250000;
 
 // So many trials guess; from then on each halves.
@@ -60,9 +63,11 @@ fn level_at(k: Figures, i: usize) -> u64
     full
 }
 
-// Whether a short list is enough for runs from speed v: the brake is full by its last entry, or no run is longer. With either the order is the same.
+// Whether the short array has room for what a consist's runs from speed v read: the brake is full by its last entry, or no run is longer.
+// With either array the order is the same.
 fn reads_few(k: Figures, v: u64) -> bool
     requires { ⌜ Sound k ⌝ }
+    ensures { λ r. ⌜ (r ≡ true → Room k v shortList) ⌝ }
 {
     let full = k.full;
     let growth = k.growth;
@@ -75,7 +80,7 @@ fn reads_few(k: Figures, v: u64) -> bool
 // Works the list out, and tells how many entries it has. It ends with the first B, or where a train stands that brakes from speed v: a
 // slower one stands sooner, so no trial reads further.
 fn list_levels(k: Figures, v: u64, list: &mut [u64]) -> usize
-    requires { ⌜ Braking k v 0 × (length (now list) ≤ longestList) ⌝ }
+    requires { ⌜ Braking k v 0 × Room k v (length (now list)) ⌝ }
     ensures { λ r. ⌜ ListedTo k v (now (list .exit)) r ⌝ }
 {
     let full = k.full;
@@ -96,9 +101,10 @@ fn list_levels(k: Figures, v: u64, list: &mut [u64]) -> usize
     at
 }
 
-// Stop travel from speed v and level 0, read from the list. Past its end the run goes on by itself: from the first B on the level stays.
+// Stop travel from speed v and level 0, read from the list. Past its end the run goes on by itself: from the first B on the level stays, and
+// a list that is no consist's may end before it.
 fn stop_read(k: Figures, list: &[u64], v: u64) -> u64
-    requires { ⌜ Braking k v 0 × Listed k (now list) ⌝ }
+    requires { ⌜ Braking k v 0 × Listed k v (now list) ⌝ }
     ensures { λ r. ⌜ r ≡ stopRead k (levelList k) v ⌝ }
 {
     let mut speeds: u64 = 0;
@@ -122,7 +128,7 @@ fn stop_read(k: Figures, list: &[u64], v: u64) -> u64
 
 // One trial: the reach of cap c.
 fn trial(k: Figures, m: Motion, list: &[u64], c: u64) -> u64
-    requires { ⌜ Bounded k m c × Listed k (now list) ⌝ }
+    requires { ⌜ Bounded k m c × Listed k (driveSpeed k (m .speed) c) (now list) ⌝ }
     ensures { λ r. ⌜ r ≡ reach k m (Drive c) ⌝ }
 {
     let worst = motion_code::worst_case(k, m, Order::Drive(c));
@@ -162,7 +168,7 @@ fn close_in(
     high: u64,
     beyond: u64,
 ) -> Offer
-    requires { ⌜ Kept k goal m least × Beyond k goal m high beyond × Listed k (now list) ⌝ }
+    requires { ⌜ Kept k goal m least × Beyond k goal m high beyond × Listed k (driveSpeed k (m .speed) high) (now list) ⌝ }
     ensures { λ r. ⌜ r ≡ offer k m (greatest (keepsGoal k goal m) high) ⌝ }
 {
     let mut low: u64 = 0;
@@ -191,7 +197,7 @@ fn close_in(
 // The same, or brake where no cap below high keeps the goal: then cap 0 does not. The levels are worked out once, in the array lent, as
 // far as the run from the cap high reads them.
 fn search(k: Figures, goal: u64, m: Motion, high: u64, beyond: u64, list: &mut [u64]) -> Offer
-    requires { ⌜ Beyond k goal m high beyond × (length (now list) ≤ longestList) ⌝ }
+    requires { ⌜ Beyond k goal m high beyond × Room k (driveSpeed k (m .speed) high) (length (now list)) ⌝ }
     ensures { λ r. ⌜ r ≡ offer k m (greatest (keepsGoal k goal m) high) ⌝ }
 {
     let v = m.speed;

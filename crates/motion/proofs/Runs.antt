@@ -7,6 +7,7 @@ use mathlib.Core.Path.{_≡_, refl, sym, _∙_, ap}
 use native.Mathlib.Nat.{mul-le-mul-left, mul-le-mul-right, le-refl}
 use native.Mathlib.Decide.{le-ind}
 use native.Mathlib.Omega.{arith}
+use lib.ListN.{length}
 use borrow.Author.Tests.{eqb-false}
 use Rattle.brake.specs.declared.Figures.{Figures}
 use Rattle.brake.specs.Consist.{Sound}
@@ -80,6 +81,17 @@ module _ (k : Figures) (s : Sound k) (P : ℕ → ℕ → Type 0)
 
   pub run-induction : (v b : ℕ) → P v b
   run-induction v b = within (enoughCycles k v b) v b (le-refl _)
+
+-- at the same level, who is no faster stands within as many cycles
+pub run-mono : (k : Figures) {v v′ : ℕ} (b : ℕ) → Sound k → v ≤ v′ → length (brakedRun k v b) ≤ length (brakedRun k v′ b)
+run-mono k {v} {v′} b s h =
+    run-induction k s (λ v′ b. (v : ℕ) → v ≤ v′ → length (brakedRun k v b) ≤ length (brakedRun k v′ b))
+    (λ v′ b e v h. rw (run-stands k v b (stands-mono k b h e)) (omega arith))
+    (λ v′ b e after v h.
+    by-test (stands k v b)
+    (λ t. rw (run-stands k v b t) (omega arith))
+    (λ f. rw (run-moves k v b s f, run-moves k v′ b s e) (let rest = after (brakeSpeed k v b) (speed-mono k b h) in omega arith)))
+    v′ b v h
 
 -- ---- the stopping distance
 

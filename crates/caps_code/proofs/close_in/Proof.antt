@@ -11,7 +11,7 @@ use Rattle.motion.specs.declared.Motion.{Motion}
 use Rattle.motion.specs.declared.Order.the-variants.{Drive}
 use Rattle.motion.specs.Orders.{reach}
 use Rattle.motion.proofs.Bounds.{bounded-cap}
-use Rattle.caps_code.proofs.Trials.{found, digits, trialsLeft, fewer-left, trials-most}
+use Rattle.caps_code.proofs.Trials.{listed-below, found, digits, trialsLeft, fewer-left, trials-most}
 use Rattle.caps_code.proofs.close_in.Statement.{statement}
 use Rattle.caps_code.proofs.close_in.Tie as tie
 
@@ -69,7 +69,8 @@ trial-requires : tie.Need-trial-requires Inv-loop μ-loop
 trial-requires c κs =
     let loop = c .before .before in
     let start = loop .before .before in
-    (bounded-cap (start .pre .1 .bounded) (omega (arith, c .next-cap .ensures .below, loop .loop .inv .within)), start .pre .2)
+    let below : c .next-cap .result ≤ start .args .high = omega (arith, c .next-cap .ensures .below, loop .loop .inv .within) in
+    (bounded-cap (start .pre .1 .bounded) below, listed-below (start .args .m .speed) (start .pre .1 .bounded .figures) below (start .pre .2))
 
 add-trials : tie.Need-add-trials Inv-loop μ-loop
 add-trials c = omega (arith, c .before .before .before .loop .inv .few)

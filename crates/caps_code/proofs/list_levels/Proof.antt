@@ -19,8 +19,8 @@ use Rattle.motion.proofs.Cycles.{moved-before}
 use Rattle.motion.proofs.Runs.{run-stands, run-moves}
 use Rattle.motion.proofs.Bounds.{braking-on}
 use Rattle.caps.specs.Levels.{levelEntry}
-use Rattle.caps_code.specs.Search.{longestList, Listed, Enough, at-full, at-stand, at-room, ListedTo}
-use Rattle.caps.proofs.Levels.{entry-none, entry-next}
+use Rattle.caps_code.specs.Search.{longestList, Enough, at-full, at-stand, Room, ListedTo}
+use Rattle.caps.proofs.Levels.{list-ends, entry-none, entry-next}
 use Rattle.caps_code.proofs.list_levels.Statement.{statement}
 use Rattle.caps_code.proofs.list_levels.Tie as tie
 
@@ -45,11 +45,13 @@ write k list₀ list n w h =
     }
 
 -- the first n numbers are the list, as far as they go
-listed-in : (k : Figures) (list : List ℕ) (n : ℕ) → n ≤ length list → length list ≤ longestList
-    → ((i : ℕ) → i < n → getD list i 0 ≡ levelEntry k i) → Listed k (take n list)
-listed-in k list n within long entry =
-    let count = length-take-le n list within in
-    record { long = omega arith; entry = λ i h. let below : i < n = omega arith in getD-take n list i 0 below ∙ entry i below }
+listed-in : {k : Figures} {list₀ list : List ℕ} {n : ℕ} (v : ℕ) → Written k list₀ list n → Room k v n → ListedTo k v list n
+listed-in {list = list} {n = n} v w room =
+    let count = length-take-le n list (w .within) in
+    record {
+      within = w .within;
+      listed = record { room = rw count room; entry = λ i h. let below : i < n = omega arith in getD-take n list i 0 below ∙ w .entry i below };
+    }
 
 -- so far the list goes along with the run from speed v
 record Listing (k : Figures) (v : ℕ) (list₀ list : List ℕ) (speed at : ℕ) : Type 0 where
@@ -80,7 +82,7 @@ loop-holds c =
 
 -- the list is no longer than it may be
 short : (c : tie.At-loop Inv-loop μ-loop) → length (c .loop .list) ≤ longestList
-short c = omega (arith, c .loop .inv .written .same, c .before .before .pre .1)
+short c = omega (arith, c .loop .inv .written .same, c .before .before .pre .1 .most)
 
 level-at-requires : tie.Need-level-at-requires Inv-loop μ-loop
 level-at-requires c κs = (c .before .before .before .pre .0 .figures, omega (arith, short (c .before)))
@@ -101,20 +103,16 @@ done c = rw (c .level-at .ensures) (write _ _ _ _ (c .before .before .loop .inv 
 
 listed : (c : tie.After-level-at Inv-loop μ-loop) → let l = c .before .before .loop in
     let a = c .before .before .before .before .args in let list = set (l .list) (l .at) (c .level-at .result) in
-    Enough (a .k) (a .v) (length list) (l .at + 1) → ListedTo (a .k) (a .v) list (l .at + 1)
+    Enough (a .k) (a .v) (l .at + 1) → ListedTo (a .k) (a .v) list (l .at + 1)
 listed c enough =
     let w = done c in
-    record {
-      within = w .within;
-      listed = listed-in _ _ _ (w .within) (omega (arith, w .same, c .before .before .before .before .pre .1)) (w .entry);
-      enough = enough;
-    }
+    listed-in _ w (record { most = omega (arith, w .same, w .within, c .before .before .before .before .pre .1 .most); enough = λ load l e. enough })
 
 same-length : tie.Need-same-length Inv-loop μ-loop
 same-length c = done (c .before) .same
 
 returns : tie.Need-returns Inv-loop μ-loop
-returns c = let t = c .before in listed t (at-full (t .before .before .loop .at) refl (sym (t .level-at .ensures) ∙ c .if1 .taken))
+returns c = let t = c .before in listed t (at-full (list-ends _ (t .before .before .before .before .pre .0 .figures) (t .before .before .loop .at) (sym (t .level-at .ensures) ∙ c .if1 .taken)))
 
 same-length-2 : tie.Need-same-length-2 Inv-loop μ-loop
 same-length-2 c = done (c .before .before .before) .same
@@ -158,7 +156,8 @@ same-length-3 c = c .before .loop .inv .written .same
 returns-3 : tie.Need-returns-3 Inv-loop μ-loop
 returns-3 c =
     let w = c .before .loop .inv .written in
-    record { within = w .within; listed = listed-in _ _ _ (w .within) (short (c .before)) (w .entry); enough = at-room (omega (arith, w .within, c .loop-test .left)) }
+    let all : c .before .loop .at ≡ length (c .before .before .before .args .list .now) = omega (arith, w .same, w .within, c .loop-test .left) in
+    listed-in _ w (rw all (c .before .before .before .pre .1))
 
 pub list-levels-spec : {M : Type 1} → statement M
 list-levels-spec =

@@ -2,7 +2,8 @@
 -- Assumes nothing.
 use native.Mathlib.Omega.{arith}
 use borrow.Author.Needs.{needs}
-use Rattle.caps_code.specs.Search.{Beyond}
+use Rattle.caps.proofs.Levels.{list-within}
+use Rattle.caps_code.specs.Search.{at-full, Beyond}
 use Rattle.caps_code.proofs.Trials.{found}
 use Rattle.caps_code.proofs.order_up_to.Statement.{statement}
 use Rattle.caps_code.proofs.order_up_to.Tie as tie
@@ -25,10 +26,14 @@ beyond c =
     record { bounded = tried .before .pre; reached = tried .reach-of .ensures; over = omega (arith, c .if1 .left) }
 
 search-requires : tie.Need-search-requires
-search-requires c κs = (beyond (c .before .before .before .before), search needs)
+search-requires c κs =
+    let few = c .before in
+    (beyond (few .before .before .before), rw (few .before .before .drive-speed .ensures) at (few .before .reads-few .ensures (few .if2 .taken)))
 
 search-requires-2 : tie.Need-search-requires-2
-search-requires-2 c κs = (beyond (c .before .before .before .before), search needs)
+search-requires-2 c κs =
+    let beyond = beyond (c .before .before .before .before) in
+    (beyond, record { most = search needs; enough = λ load l e. at-full (list-within load l _ e .1) })
 
 pub order-up-to-spec : {M : Type 1} → statement M
 order-up-to-spec =

@@ -30,7 +30,7 @@ loop-holds c =
     record { within = omega arith; sums = rw (entry-none (start .args .k)) (summed-none (start .pre .0)) }
 
 mul-level : tie.Need-mul-level Inv-loop μ-loop
-mul-level c = omega (arith, c .before .before .before .pre .1 .long)
+mul-level c = omega (arith, c .before .before .before .pre .1 .room .most)
 
 shared-slice-read-level : tie.Need-shared-slice-read-level Inv-loop μ-loop
 shared-slice-read-level c = omega arith
@@ -78,7 +78,7 @@ brake-speed-requires : tie.Need-brake-speed-requires Inv-loop μ-loop
 brake-speed-requires c κs = let t = c .before .before in rw (read t) (t .before .before .loop .inv .sums .here)
 
 add-cycle : tie.Need-add-cycle Inv-loop μ-loop
-add-cycle c = omega (arith, c .before .before .before .before .before .before .before .pre .1 .long)
+add-cycle c = omega (arith, c .before .before .before .before .before .before .before .pre .1 .room .most)
 
 loop-less : tie.Need-loop-less Inv-loop μ-loop
 loop-less c = omega arith
@@ -90,7 +90,7 @@ loop-again c = record { within = omega arith; sums = rw (c .brake-speed .ensures
 level-at-requires : tie.Need-level-at-requires Inv-loop μ-loop
 level-at-requires c κs =
     let start = c .before .before .before in
-    (start .pre .0 .figures, omega (arith, c .before .loop .inv .within, start .pre .1 .long))
+    (start .pre .0 .figures, omega (arith, c .before .loop .inv .within, start .pre .1 .room .most))
 
 travelled-requires-2 : tie.Need-travelled-requires-2 Inv-loop μ-loop
 travelled-requires-2 c κs = summed-gone (c .before .before .loop .inv .sums)

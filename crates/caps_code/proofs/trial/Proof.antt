@@ -15,7 +15,7 @@ worst : (c : tie.After-shared-slice-known) → let a = c .before .args in Brakin
 worst c = worst-braking (c .before .args .k) (c .before .args .m) (Drive (c .before .args .c)) (c .before .pre .0)
 
 stop-read-requires : tie.Need-stop-read-requires
-stop-read-requires c κs = (rw (c .worst-case .ensures) (worst (c .before)), c .before .before .pre .1)
+stop-read-requires c κs = rw (c .worst-case .ensures) (worst (c .before), c .before .before .pre .1)
 
 add-result : tie.Need-add-result
 add-result c =
