@@ -21,6 +21,7 @@ use Rattle.motion.proofs.Cycles.{drive-speed-mono}
 use Rattle.motion.proofs.Runs.{run-mono}
 use Rattle.motion.proofs.Greatest.{greatest-only, greatest-agree}
 use Rattle.motion.proofs.Orders.{reach-mono, fits-over, fits-under}
+use Rattle.caps_code.specs.declared.Gap.{Gap}
 use Rattle.caps_code.specs.Search.{CapsAllowed, Enough, at-full, at-stand, Listed, guesses, Next}
 
 module _ (k : Figures) (l : Maxima) (goal : ℕ) (m : Motion) where
@@ -103,25 +104,26 @@ half-digits m (suc n) h p = let less = digits-mono m n m (suc n / 2) p (le-refl 
 abbrev pub trialsLeft : ℕ → ℕ → ℕ
 trialsLeft trials between = (guesses - trials) + digits between
 
--- a trial of what comes next leaves fewer
-pub fewer-left : (trials low top c d : ℕ) → Next trials low top c → (d ≡ c - low - 1) ⊎ (d ≡ top - c - 1) → trialsLeft (trials + 1) d < trialsLeft trials (top - low - 1)
-fewer-left trials low top c d next e =
+-- a trial of what comes next leaves fewer: the end that moves leaves d caps between
+pub fewer-left : (trials : ℕ) (gap : Gap) (c d : ℕ) → Next trials gap c → (d ≡ c - gap .low - 1) ⊎ (d ≡ gap .high - c - 1)
+    → trialsLeft (trials + 1) d < trialsLeft trials (gap .high - gap .low - 1)
+fewer-left trials gap c d next e =
     by-cases (decLe guesses trials)
     (λ halving.
     let half = next .halves halving in
-    let digit = half-digits d (top - low - 1) (omega (arith, next .above, next .below)) (nearer half e) in
+    let digit = half-digits d (gap .high - gap .low - 1) (omega (arith, next .above, next .below)) (nearer half e) in
     omega arith)
-    (λ guessing. let fewer = digits-le d (top - low - 1) (closer e) in omega arith)
+    (λ guessing. let fewer = digits-le d (gap .high - gap .low - 1) (closer e) in omega arith)
   where
-    closer : (d ≡ c - low - 1) ⊎ (d ≡ top - c - 1) → d ≤ top - low - 1
+    closer : (d ≡ c - gap .low - 1) ⊎ (d ≡ gap .high - c - 1) → d ≤ gap .high - gap .low - 1
     closer (inl e) = omega (arith, next .above, next .below)
     closer (inr e) = omega (arith, next .above, next .below)
 
-    nearer : c ≡ low + (top - low) / 2 → (d ≡ c - low - 1) ⊎ (d ≡ top - c - 1) → d ≤ (top - low - 1) / 2
+    nearer : c ≡ gap .low + (gap .high - gap .low) / 2 → (d ≡ c - gap .low - 1) ⊎ (d ≡ gap .high - c - 1) → d ≤ (gap .high - gap .low - 1) / 2
     nearer half (inl e) = omega (arith, next .above, next .below)
     nearer half (inr e) = omega (arith, next .above, next .below)
 
 -- no search takes more than 25
-pub trials-most : (high : ℕ) → high ≤ greatestTraction → trialsLeft 0 (high - 1) ≤ 25
+pub trials-most : (gap : Gap) → gap .high ≤ greatestTraction → trialsLeft 0 (gap .high - gap .low - 1) ≤ 25
 unfolding digits digitsWithin
-trials-most high h = let few = digits-le (high - 1) 99999 (omega arith) in omega arith
+trials-most gap h = let few = digits-le (gap .high - gap .low - 1) 99999 (omega arith) in omega arith

@@ -13,6 +13,7 @@ use Rattle.motion.specs.Motion.{driveSpeed, brakedRun}
 use Rattle.motion.specs.Orders.{reach}
 use Rattle.motion.specs.Bounds.{Bounded}
 use Rattle.caps.specs.Levels.{levelEntry, levelList}
+use Rattle.caps_code.specs.declared.Gap.{Gap}
 
 -- ---- words of inner contracts
 
@@ -56,23 +57,24 @@ pub record Beyond (k : Figures) (goal : ℕ) (m : Motion) (high beyond : ℕ) : 
   pub reached : beyond ≡ reach k m (Drive high)
   pub over : goal < beyond
 
--- a search above the cap 0, whose reach keeps the goal
-pub record Kept (k : Figures) (goal : ℕ) (m : Motion) (least : ℕ) : Type 0 where
-  pub reached : least ≡ reach k m (Drive 0)
-  pub keeps : least ≤ goal
+-- a search below such a cap, and above the cap low, whose reach keeps the goal
+pub record Closing (k : Figures) (goal : ℕ) (m : Motion) (gap : Gap) : Type 0 where
+  pub below : Beyond k goal m (gap .high) (gap .beyond)
+  pub reached : gap .kept ≡ reach k m (Drive (gap .low))
+  pub keeps : gap .kept ≤ goal
 
--- caps to try between low, whose reach is kept, and top, whose reach is over
-pub record Apart (goal low kept top over : ℕ) : Type 0 where
-  pub some : low + 1 < top
-  pub keeps : kept ≤ goal
-  pub beyond : goal < over
+-- some cap lies between the two
+pub record Apart (goal : ℕ) (gap : Gap) : Type 0 where
+  pub between : gap .low + 1 < gap .high
+  pub keeps : gap .kept ≤ goal
+  pub over : goal < gap .beyond
 
 -- so many trials guess; from then on each halves
 abbrev pub guesses : ℕ
 guesses = 8
 
 -- the cap to try next after so many trials
-pub record Next (trials low top c : ℕ) : Type 0 where
-  pub above : low < c
-  pub below : c < top
-  pub halves : guesses ≤ trials → c ≡ low + (top - low) / 2
+pub record Next (trials : ℕ) (gap : Gap) (c : ℕ) : Type 0 where
+  pub above : gap .low < c
+  pub below : c < gap .high
+  pub halves : guesses ≤ trials → c ≡ gap .low + (gap .high - gap .low) / 2

@@ -10,7 +10,7 @@ ghost use Rattle.motion_code.specs.Offers.{offer};
 ghost use Rattle.motion.specs.declared.Order.the-variants.{Drive};
 ghost use Rattle.motion.specs.Bounds.{Braking, Driving, Bounded};
 ghost use Rattle.caps.specs.Levels.{levelEntry, levelList, stopRead};
-ghost use Rattle.caps_code.specs.Search.{CapsAllowed, shortList, longestList, Room, Listed, ListedTo, Beyond, Kept, Apart, Next};
+ghost use Rattle.caps_code.specs.Search.{CapsAllowed, shortList, longestList, Room, Listed, ListedTo, Beyond, Closing, Apart, Next};
 use brake::Figures;
 use motion::Maxima;
 use motion::Motion;
@@ -126,6 +126,14 @@ fn stop_read(k: Figures, list: &[u64], v: u64) -> u64
 
 // ---- the search
 
+// The caps left to a search lie between two: low, whose reach is kept, keeps the goal, and high, whose reach is beyond, does not.
+struct Gap {
+    low: u64,
+    kept: u64,
+    high: u64,
+    beyond: u64,
+}
+
 // One trial: the reach of cap c.
 fn trial(k: Figures, m: Motion, list: &[u64], c: u64) -> u64
     requires { ⌜ Bounded k m c × Listed k (driveSpeed k (m .speed) c) (now list) ⌝ }
@@ -137,60 +145,52 @@ fn trial(k: Figures, m: Motion, list: &[u64], c: u64) -> u64
     head + stop_read(k, list, v)
 }
 
-// The cap to try next, between low, whose reach is kept, and top, whose reach is over. The reach grows nearly in proportion to the cap. So
-// the guess is the cap by proportion, rounded down, and one more: where low is the greatest that fits, that is the next one, and the search
-// is over.
-fn next_cap(trials: u64, goal: u64, low: u64, kept: u64, top: u64, over: u64) -> u64
-    requires { ⌜ Apart goal low kept top over ⌝ }
-    ensures { λ r. ⌜ Next trials low top r ⌝ }
+// The cap to try next. The reach grows nearly in proportion to the cap. So the guess is the cap by proportion, rounded down, and one more:
+// where low is the greatest that fits, that is the next one, and the search is over.
+fn next_cap(trials: u64, goal: u64, gap: Gap) -> u64
+    requires { ⌜ Apart goal gap ⌝ }
+    ensures { λ r. ⌜ Next trials gap r ⌝ }
 {
-    let gap = top - low;
+    let low = gap.low;
+    let kept = gap.kept;
+    let high = gap.high;
+    let beyond = gap.beyond;
+    let width = high - low;
     if GUESSES <= trials {
-        return low + gap / 2;
+        return low + width / 2;
     }
-    let step = (over - kept) / gap + 1;
+    let step = (beyond - kept) / width + 1;
     let ahead = (goal - kept) / step + 1;
-    if gap <= ahead {
-        return top - 1;
+    if width <= ahead {
+        return high - 1;
     }
     low + ahead
 }
 
-// The greatest cap below high that keeps the goal, with its reach. Every cap below one that keeps the goal keeps it too, so low, which
-// does, and top, which does not, close in on it. The reaches of both are kept: none is worked out twice, and the next cap is guessed by them.
-// Whatever is guessed is tried. 25 trials at most, at A = 100,000: 8 that guess, and 17 that halve.
-fn close_in(
-    k: Figures,
-    goal: u64,
-    m: Motion,
-    list: &[u64],
-    least: u64,
-    high: u64,
-    beyond: u64,
-) -> Offer
-    requires { ⌜ Kept k goal m least × Beyond k goal m high beyond × Listed k (driveSpeed k (m .speed) high) (now list) ⌝ }
-    ensures { λ r. ⌜ r ≡ offer k m (greatest (keepsGoal k goal m) high) ⌝ }
+// The greatest cap below high that keeps the goal, with its reach. Every cap below one that keeps the goal keeps it too, so the two ends of
+// the gap close in on it. The reaches of both are kept: none is worked out twice, and the next cap is guessed by them. Whatever is guessed
+// is tried. 25 trials at most, at A = 100,000: 8 that guess, and 17 that halve.
+fn close_in(k: Figures, goal: u64, m: Motion, list: &[u64], start: Gap) -> Offer
+    requires { ⌜ Closing k goal m start × Listed k (driveSpeed k (m .speed) (start .high)) (now list) ⌝ }
+    ensures { λ r. ⌜ r ≡ offer k m (greatest (keepsGoal k goal m) (start .high)) ⌝ }
 {
-    let mut low: u64 = 0;
-    let mut kept = least;
-    let mut top = high;
-    let mut over = beyond;
+    let mut gap = start;
     let mut trials: u64 = 0;
-    while low + 1 < top {
-        let c = next_cap(trials, goal, low, kept, top, over);
+    while gap.low + 1 < gap.high {
+        let c = next_cap(trials, goal, gap);
         let tried = trial(k, m, list, c);
         trials += 1;
         if tried <= goal {
-            low = c;
-            kept = tried;
+            gap.low = c;
+            gap.kept = tried;
         } else {
-            top = c;
-            over = tried;
+            gap.high = c;
+            gap.beyond = tried;
         }
     }
     Offer {
-        order: Order::Drive(low),
-        reach: kept,
+        order: Order::Drive(gap.low),
+        reach: gap.kept,
     }
 }
 
@@ -202,11 +202,17 @@ fn search(k: Figures, goal: u64, m: Motion, high: u64, beyond: u64, list: &mut [
 {
     let v = m.speed;
     let n = list_levels(k, motion_code::drive_speed(k, v, high), list);
-    let least = trial(k, m, &list[..n], 0);
-    if goal < least {
+    let kept = trial(k, m, &list[..n], 0);
+    if goal < kept {
         return motion_code::offer_of(k, m, Order::Brake);
     }
-    close_in(k, goal, m, &list[..n], least, high, beyond)
+    let gap = Gap {
+        low: 0,
+        kept,
+        high,
+        beyond,
+    };
+    close_in(k, goal, m, &list[..n], gap)
 }
 
 // The greatest cap up to `most` that keeps the goal, with its reach, or brake where none does. The greatest itself is tried first, by a run of

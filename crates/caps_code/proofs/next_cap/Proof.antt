@@ -7,24 +7,28 @@ use borrow.Author.Needs.{needs}
 use Rattle.caps_code.proofs.next_cap.Statement.{statement}
 use Rattle.caps_code.proofs.next_cap.Tie as tie
 
--- a gap of two or more takes half of it, or more
-half : (a gap : ℕ) → 2 ≤ gap → a / gap * 2 ≤ a
-half a gap h = let part = div-mul-le-self a gap in let more : a / gap * 2 ≤ a / gap * gap = mul-le-mul-left (a / gap) h in omega arith
+-- divided by two or more, at most half is left
+half : (a width : ℕ) → 2 ≤ width → a / width * 2 ≤ a
+half a width h = let part = div-mul-le-self a width in let more : a / width * 2 ≤ a / width * width = mul-le-mul-left (a / width) h in omega arith
 
 returns : tie.Need-returns
-returns c = let some = c .before .pre .some in record { above = omega arith; below = omega arith; halves = λ h. omega arith }
+returns c = let between = c .before .pre .between in record { above = omega arith; below = omega arith; halves = λ h. omega arith }
 
 add-step : tie.Need-add-step
 add-step c =
-    let a = c .before .args in
-    let part = half (a .over - a .kept) (a .top - a .low) (omega (arith, c .before .pre .some)) in
+    let g = c .before .args .gap in
+    let part = half (g .beyond - g .kept) (g .high - g .low) (omega (arith, c .before .pre .between)) in
     omega arith
 
 add-ahead : tie.Need-add-ahead
-add-ahead c = let a = c .before .args in let part = div-le-self (a .goal - a .kept) ((a .over - a .kept) / (a .top - a .low) + 1) in omega (arith, c .before .pre .beyond)
+add-ahead c =
+    let a = c .before .args in
+    let g = a .gap in
+    let part = div-le-self (a .goal - g .kept) ((g .beyond - g .kept) / (g .high - g .low) + 1) in
+    omega (arith, c .before .pre .over)
 
 returns-2 : tie.Need-returns-2
-returns-2 c = let some = c .before .before .pre .some in record { above = omega arith; below = omega arith; halves = λ h. absurd (omega (arith, c .before .if1 .left)) }
+returns-2 c = let between = c .before .before .pre .between in record { above = omega arith; below = omega arith; halves = λ h. absurd (omega (arith, c .before .if1 .left)) }
 
 returns-3 : tie.Need-returns-3
 returns-3 c = record { above = omega arith; below = omega (arith, c .if2 .left); halves = λ h. absurd (omega (arith, c .before .if1 .left)) }

@@ -44,7 +44,7 @@ close-in-requires c κs =
     let test = c .before in
     let levels = test .before .before .before .before .before in
     let listed = rw (levels .before .before .drive-speed .ensures) at (levels .list-levels .ensures .listed) in
-    (record { reached = test .before .trial .ensures; keeps = omega (arith, test .if1 .left) }, levels .before .before .before .before .pre .0, listed)
+    (record { below = levels .before .before .before .before .pre .0; reached = test .before .trial .ensures; keeps = omega (arith, test .if1 .left) }, listed)
 
 pub search-spec : {M : Type 1} → statement M
 search-spec =
