@@ -50,6 +50,8 @@ count-exactly o x n m sound growing slowing = let cycles = cycles-counted (x .fi
 pub record Plainly (o : Opening) (xs : List Told) : Type 0 where
   -- "Brake force, application time ... equal the definitions": for the load class and the length that were entered
   pub consists : (ahead : List Told) (x : Told) (others : List Told) → xs ≡ ahead ++ (x ∷ others) → Described (x .entry .load) (x .entry .length) (x .figures)
+  -- "The head must be at least the length", on entering and from then on
+  pub rears : (ahead : List Told) (x : Told) (others : List Told) → xs ≡ ahead ++ (x ∷ others) → 6096000 * x .entry .length ≤ x .now .last .head
   -- "every head on the line is at or before its end of authority"
   pub heads : (ahead : List Told) (x : Told) (others : List Told) → xs ≡ ahead ++ (x ∷ others) → x .now .last .head ≤ x .now .authority .end
   -- "every end lies at least the safety distance behind the rear ahead"; "A train's rear is its head minus its length"; "1 ft is 6,096,000"
@@ -69,10 +71,10 @@ pub record Plainly (o : Opening) (xs : List Told) : Type 0 where
 
 module _ (o : Opening) where
   -- the claim's parts for the train x, whatever is ahead of it
-  pub record At (x : Told) (others : List Told) : Type 0 where
-    pub alone : Alone o x
-    pub clear : Clear x others
-    pub behind : Safe o (some x) others
+  record At (x : Told) (others : List Told) : Type 0 where
+    alone : Alone o x
+    clear : Clear x others
+    behind : Safe o (some x) others
 
   at : (before : Option Told) (ahead : List Told) (x : Told) (others : List Told) → Safe o before (ahead ++ (x ∷ others)) → At x others
   at before [] x others safe = record { alone = safe .0; clear = safe .2; behind = safe .3 }
@@ -89,11 +91,12 @@ module _ (o : Opening) where
       let count = count-exactly o x p q (given-sound _ _ (x .figures) (alone .consist)) growing slowing in
       eqb-true _ _ (stands-then (omega arith))
 
-  pub plainly : (xs : List Told) → Safe o none xs → Plainly o xs
+  plainly : (xs : List Told) → Safe o none xs → Plainly o xs
   unfolding rearOf stepsOf
   plainly xs safe =
       record {
         consists = λ ahead x others e. figures-exactly _ _ _ .0 (there ahead x others e .alone .consist);
+        rears = λ ahead x others e. there ahead x others e .alone .rear-on-line;
         heads = λ ahead x others e. there ahead x others e .alone .head-within-end;
         ends =
             λ ahead a x others e.
