@@ -1,5 +1,5 @@
 //! The papers' own examples: document 01's worked session and starred values, as
-//! far as document 02, (i), has them worked out again, and the example of (ii).
+//! far as document 02, (i), has them worked out again, and an example for (ii).
 //! `docs/session` has both sessions, document 01's with the report that is taken
 //! and both call-back examples.
 
@@ -56,11 +56,25 @@ fn program_gives_the_printed_output() {
     assert_eq!(String::from_utf8_lossy(&output), ANSWERS);
 }
 
+/// README's blocks: the crates, a report's way, and the session's two.
+fn readme_blocks() -> [&'static str; 4] {
+    let readme = include_str!("../../README.md");
+    let blocks: Vec<&str> = readme.split("```\n").skip(1).step_by(2).collect();
+    blocks.try_into().expect("four blocks")
+}
+
 #[test]
 fn readme_prints_the_worked_session() {
-    let readme = include_str!("../../README.md");
-    let blocks: Vec<&str> = readme.split("```\n").collect();
-    assert_eq!([blocks[1], blocks[3]], [CALLS, ANSWERS]);
+    let [_, _, calls, answers] = readme_blocks();
+    assert_eq!([calls, answers], [CALLS, ANSWERS]);
+}
+
+/// From the session's eighth line to its answer.
+#[test]
+fn readme_shows_the_way_of_a_report() {
+    let [_, way, _, _] = readme_blocks();
+    assert_eq!(way.lines().next(), CALLS.lines().nth(7));
+    assert_eq!(way.lines().last(), ANSWERS.lines().nth(7));
 }
 
 /// Document 02, (ii): after the brake at speed 2,534 the train brakes on at 100,

@@ -29,7 +29,7 @@ use Rattle.line.proofs.Rules.{refusal-keeps, call-2, open-2, open-3, open-accep
 use Rattle.wire.specs.Format.{lineRead, left, text, textOf, answerText}
 use Rattle.stream.specs.declared.Session.{Session}
 use Rattle.stream.specs.declared.Reply.{Reply}
-use Rattle.stream.specs.Session.{session, lineDecision, answered}
+use Rattle.stream.specs.Session.{session, closed, lineDecision, answered}
 use Rattle.stream.specs.Input.{lines, rest, outputLine, answers, lastAnswer}
 use Rattle.stream.proofs.Safe.{repliedTo}
 
@@ -64,6 +64,15 @@ pub each-answered : (s : Session) (l : List ℕ) (ls : List (List ℕ))
     → answers s (l ∷ ls) ≡ answerText (answered s l .answer) ++ (10 ∷ answers (answered s l .session) ls)
 unfolding answers outputLine
 each-answered s l ls = append-assoc (answerText (answered s l .answer)) (10 ∷ []) _
+
+-- ---- the state between lines
+
+pub session-made : (b : Bool) (t : Table) → session b t ≡ record { opened = b; table = t }
+session-made b t = refl
+
+-- no opening has been accepted at the start, and no train is on the line
+pub closed-at-first : (closed .opened ≡ false) × (closed .table .count ≡ 0)
+closed-at-first = (refl, refl)
 
 -- ---- a line
 
