@@ -3,8 +3,6 @@
 use Prim.Native.Nat.{ℕ}
 use mathlib.Core.List.{List, [], _∷_, _++_}
 use mathlib.Core.Path.{_≡_, refl, sym, ap, _∙_}
-use lib.Dec.{eqb}
-use Rattle.logic.proofs.Tests.{by-test}
 use Rattle.logic.specs.Rounding.{ceilDiv}
 use Rattle.ranges.specs.Ranges.{between}
 use Rattle.brake.specs.Consist.{carOf, fullBrake, applicationTime, applicationCycles, sheetEntry, entryFor, brakeCycles, figuresWith, figuresBy, figuresOf}
@@ -25,6 +23,7 @@ use Rattle.stream.specs.declared.Session.{Session}
 use Rattle.stream.specs.Session.{lineDecision, answered}
 use Rattle.stream.specs.Input.{lines, rest, after, outputLine, answers, kept}
 use Rattle.stream.proofs.Lines.{Standing, standing}
+use Rattle.stream.proofs.Sentences.{rest-anew}
 use Rattle.papers.specs.Exchanges.{Exchange, bytesOf, inputOf, outputOf}
 
 -- ---- one pass
@@ -45,15 +44,10 @@ walked-same s (l ∷ ls) =
     ap (λ (w : Standing). record { session = w .session; begins = []; written = outputLine (r .answer) ++ w .written }) (walked-same (r .session) ls)
 
 -- nothing has begun after a line feed
-none-begun : (g bs cs : List ℕ) → rest g (bs ++ (10 ∷ cs)) ≡ rest [] cs
-unfolding rest
-none-begun g [] cs = refl
-none-begun g (b ∷ bs) cs = by-test (eqb b 10) (λ e. rw e (none-begun [] bs cs)) (λ e. rw e (none-begun (g ++ (b ∷ [])) bs cs))
-
 all-ended : (xs : List Exchange) → rest [] (inputOf xs) ≡ []
 unfolding rest inputOf
 all-ended [] = refl
-all-ended (x ∷ xs) = none-begun [] (bytesOf (x .input)) (inputOf xs) ∙ all-ended xs
+all-ended (x ∷ xs) = rest-anew [] (bytesOf (x .input)) (inputOf xs) ∙ all-ended xs
 
 -- ---- a session from its text
 

@@ -8,6 +8,7 @@ use lib.Dec.{eqb}
 use lib.ListN.{replicate}
 use mathlib.Core.Path.{_≡_, refl, sym, ap, _∙_}
 use borrow.Author.Tests.{ne-eqb}
+use Rattle.logic.proofs.Tests.{by-test}
 use Rattle.calls.specs.declared.Opening.{Opening}
 use Rattle.calls.specs.declared.Call.{Call}
 use Rattle.calls.specs.declared.Ask.the-variants.{Open, OnTable}
@@ -41,10 +42,16 @@ NoFeed [] = Unit {0}
 NoFeed (b ∷ bs) = (b ≡ 10 → ⊥) × NoFeed bs
 
 -- where the bytes g have come before
-line-from : (g l more : List ℕ) → NoFeed l → (lines g (l ++ (10 ∷ more)) ≡ (g ++ l) ∷ lines [] more) × (rest g (l ++ (10 ∷ more)) ≡ rest [] more)
-unfolding lines rest
-line-from g [] more none = rw append-nil (refl, refl)
+line-from : (g l more : List ℕ) → NoFeed l → lines g (l ++ (10 ∷ more)) ≡ (g ++ l) ∷ lines [] more
+unfolding lines
+line-from g [] more none = rw append-nil refl
 line-from g (b ∷ l) more (other, none) = rw (ne-eqb b 10 other, sym (append-assoc g (b ∷ []) l)) (line-from (g ++ (b ∷ [])) l more none)
+
+-- a line feed begins anew, whatever came before it
+pub rest-anew : (g l more : List ℕ) → rest g (l ++ (10 ∷ more)) ≡ rest [] more
+unfolding rest
+rest-anew g [] more = refl
+rest-anew g (b ∷ l) more = by-test (eqb b 10) (λ e. rw e (rest-anew [] l more)) (λ e. rw e (rest-anew (g ++ (b ∷ [])) l more))
 
 rest-from : (g l : List ℕ) → NoFeed l → (lines g l ≡ []) × (rest g l ≡ g ++ l)
 unfolding lines rest
@@ -53,7 +60,7 @@ rest-from g (b ∷ l) (other, none) = rw (ne-eqb b 10 other, sym (append-assoc g
 
 -- "then a line feed": what stands before the first line feed is the first line, every byte of it and no other, and the rest is cut in the same way
 pub first-line : (l more : List ℕ) → NoFeed l → (lines [] (l ++ (10 ∷ more)) ≡ l ∷ lines [] more) × (rest [] (l ++ (10 ∷ more)) ≡ rest [] more)
-first-line = line-from []
+first-line l more none = (line-from [] l more none, rest-anew [] l more)
 
 -- without a line feed no line is whole, and all of it is left over
 pub no-line : (l : List ℕ) → NoFeed l → (lines [] l ≡ []) × (rest [] l ≡ l)

@@ -7,7 +7,7 @@ use mathlib.Core.Logic.{by-cases}
 use mathlib.Core.Path.{_≡_, refl, sym, ap, _∙_}
 use native.Mathlib.Decide.{decLt}
 use native.Mathlib.Omega.{arith}
-use lib.ListN.{length, getD, set, take, length-set}
+use lib.ListN.{length, getD, set, length-set}
 use lib.Seq.{getD-set-same, getD-set-other, length-take-le, getD-take}
 use borrow.Author.Needs.{needs}
 use Rattle.brake.specs.declared.Figures.{Figures}
