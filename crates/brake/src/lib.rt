@@ -39,12 +39,19 @@ fn car_of(load: u64) -> CarFound
     }
 }
 
+// The sheet is in 16 bits, and the figures in 64.
+fn wide(x: u16) -> u64
+    ensures { λ r. ⌜ r ≡ x ⌝ }
+{
+    x as u64
+}
+
 // An entry of the brake shop's sheet. Document 02, (i): "Build the sheet in as a constant table".
 fn sheet_entry(entry: usize) -> u64
     requires { ⌜ entry < 501 ⌝ }
     ensures { λ r. ⌜ r ≡ sheetEntry entry ⌝ }
 {
-    sheet::SHEET[entry]
+    wide(sheet::SHEET[entry])
 }
 
 // Cycles until the brake is full. A length between two multiples of 20 ft takes the entry of the longer one, so that no brake is taken for
