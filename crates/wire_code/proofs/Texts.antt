@@ -1,14 +1,45 @@
 -- Laws of writing numbers into a buffer, from right to left. Assumes nothing.
 use Prim.Native.Nat.{ℕ, zero, suc, _+_, _/_, _≤_, _<_}
-use native.Mathlib.Nat.{le-of-suc-le-suc, not-suc-le-zero, add-suc, add-zero}
+use native.Mathlib.Nat.{le-of-suc-le-suc, not-suc-le-zero, add-suc, add-zero, add-assoc}
+use native.Mathlib.Decide.{decLt}
 use native.Mathlib.Omega.{arith}
+use mathlib.Core.Logic.{by-cases}
 use mathlib.Core.Path.{_≡_, refl, sym, ap, _∙_}
 use mathlib.Core.List.{List, [], _∷_, _++_, append-assoc}
 use lib.ListN.{length, take, drop, set, length-set, take-append-drop}
-use lib.Seq.{take-set-le, length-take-le, take-all, take-append-le, take-take, drop-at, paste}
+use lib.Seq.{take-set-le, drop-set-lt, length-take-le, take-all, take-append-le, take-take, drop-drop, drop-at, getD-set-same, getD-set-other, set-getD, paste}
 use Rattle.calls.specs.declared.Numbers.{Numbers}
 use Rattle.wire.specs.Format.{answerWidth, digitOf, leftDigit, left, text, textOf, answerText}
 use Rattle.wire.proofs.RoundTrip.{text-long, answer-long}
+use Rattle.wire_code.specs.Columns.{Spaces, Blanked}
+
+-- ---- spaces
+
+-- a byte to their right leaves them as they are
+pub spaces-kept : (l : List ℕ) (at j b : ℕ) → Spaces l at j → Spaces (set l (at + j) b) at j
+spaces-kept l at j b s k h = getD-set-other l (at + j) (at + k) b 0 (λ e. omega arith) ∙ s k h
+
+-- and a space there makes one more
+spaces-more : (l : List ℕ) (at j : ℕ) → at + j < length l → Spaces l at j → Spaces (set l (at + j) 32) at (j + 1)
+spaces-more l at j h s k m =
+    by-cases
+    (decLt k j)
+    (λ before. spaces-kept l at j 32 s k before)
+    (λ last. let e : k ≡ j = omega arith in rw e (getD-set-same l (at + j) 32 0 h))
+
+-- one column more is blanked, to the right
+pub blanked-more : {l₀ : List ℕ} {at j : ℕ} {l : List ℕ} → Blanked l₀ at j l → at + j < length l → Blanked l₀ at (j + 1) (set l (at + j) 32)
+blanked-more {l₀} {at} {j} {l} p h =
+    record {
+      size = length-set l (at + j) 32 ∙ p .size;
+      front = take-set-le at l (at + j) 32 (omega arith) ∙ p .front;
+      back = drop-set-lt (at + (j + 1)) l (at + j) 32 (omega arith) ∙ rw (← add-assoc at j 1, ← drop-drop 1 (at + j) l, ← drop-drop 1 (at + j) l₀, p .back);
+      spaces = spaces-more l at j h (p .spaces);
+    }
+
+-- blanking columns first makes no difference to what is then put into them
+pub blanked-put : {l₀ : List ℕ} {at w : ℕ} {l : List ℕ} → Blanked l₀ at w l → (s : List ℕ) → paste l₀ at s w ≡ paste l at s w
+blanked-put p s = rw (p .front, p .back)
 
 -- ---- a number
 
@@ -16,7 +47,7 @@ pasted-whole : (l s : List ℕ) (at w : ℕ) → length s ≡ w → paste l at s
 pasted-whole l s at w e = rw (take-all w s (omega arith)) (append-assoc (take at l) s (drop (at + w) l))
 
 -- l with what is left of a number, `rest`, in the i columns from place `at` on
-abbrev pub filled : List ℕ → ℕ → ℕ → ℕ → List ℕ
+abbrev filled : List ℕ → ℕ → ℕ → ℕ → List ℕ
 filled l at i rest = take at l ++ (left i rest ++ drop (at + i) l)
 
 drop-set : (l : List ℕ) (j a : ℕ) → j < length l → drop j (set l j a) ≡ a ∷ drop (suc j) l
@@ -42,21 +73,26 @@ module _ (l : List ℕ) (at : ℕ) where
   put-next j rest b h d = rw (← d) (column-set (left j (rest / 10)) j b h)
 
   -- nothing is left of the number, or of the columns
-  pub put-none : (i rest : ℕ) → (0 < i → rest ≡ 0) → filled l at i rest ≡ filled l at i 0
+  put-none : (i rest : ℕ) → (0 < i → rest ≡ 0) → filled l at i rest ≡ filled l at i 0
   unfolding left
   put-none zero rest z = refl
   put-none (suc i) rest z = ap (filled l at (suc i)) (z (omega arith))
 
-  -- all columns are written
-  pub put-all : (rest : ℕ) → filled l at 0 rest ≡ l
+  -- then only spaces are left to write, and the columns hold them already
+  spaces-left : (i : ℕ) → at + i ≤ length l → Spaces l at i → filled l at i 0 ≡ l
   unfolding left
-  put-all rest = rw (add-zero at) (take-append-drop at l)
+  spaces-left zero h s = rw (add-zero at) (take-append-drop at l)
+  spaces-left (suc j) h s =
+      let same : set l (at + j) 32 ≡ l = ap (set l (at + j)) (sym (s j (omega arith))) ∙ set-getD l (at + j) 0 in
+      put-next j 0 32 (omega arith) refl ∙ ap (λ (m : List ℕ). filled m at j 0) same ∙ spaces-left j (omega arith) (λ k b. s k (omega arith))
 
--- A number half written: l, with what is left of it in the columns that are left, is l₀ with what was left at first.
+-- A number half written: l, with what is left of it in the columns that are left, is l₀ with what was left at first. Those columns
+-- hold spaces.
 pub record Putting (l₀ : List ℕ) (at i₀ rest₀ : ℕ) (l : List ℕ) (i rest : ℕ) : Type 0 where
   pub within : at + i < length l
   pub size : length l ≡ length l₀
   pub same : filled l₀ at i₀ rest₀ ≡ filled l at i rest
+  pub spaces : Spaces l at i
 
 pub putting-next : {l₀ : List ℕ} {at i₀ rest₀ : ℕ} {l : List ℕ} {i rest j b : ℕ} → Putting l₀ at i₀ rest₀ l i rest → i ≡ suc j → b ≡ leftDigit rest
     → Putting l₀ at i₀ rest₀ (set l (at + j) b) j (rest / 10)
@@ -65,7 +101,13 @@ putting-next {at = at} {l = l} {rest = rest} {j = j} {b = b} p e d =
       within = simp length-set (omega arith);
       size = length-set l (at + j) b ∙ p .size;
       same = p .same ∙ ap (λ (i : ℕ). filled l at i rest) e ∙ put-next l at j rest b (omega arith) d;
+      spaces = spaces-kept l at j b (λ k h. p .spaces k (omega arith));
     }
+
+-- no digit is left, or no column
+pub putting-done : {l₀ : List ℕ} {at i₀ rest₀ : ℕ} {l : List ℕ} {i rest : ℕ} → Putting l₀ at i₀ rest₀ l i rest → (0 < i → rest ≡ 0)
+    → filled l₀ at i₀ rest₀ ≡ l
+putting-done {at = at} {l = l} {i = i} {rest = rest} p none = p .same ∙ put-none l at i rest none ∙ spaces-left l at i (omega arith) (p .spaces)
 
 -- ---- numbers side by side
 

@@ -5,6 +5,7 @@ ghost use lib.ListN.{length};
 ghost use lib.Seq.{paste};
 ghost use Rattle.wire.specs.Format.{digit as digitAfter, column as columnAfter, soFar, fieldOf, callColumns, callWidth, numbersIn, lineRead, digitOf, text, roomAt, rendered};
 ghost use Rattle.wire_code.specs.Rows.{rowNumbers};
+ghost use Rattle.wire_code.specs.Columns.{Blanked};
 use calls::Numbers;
 use calls::ROW;
 use calls::RequestRead;
@@ -142,11 +143,24 @@ fn last_digit(n: u64, tenth: u64) -> u8
     48 + (n - 10 * tenth) as u8
 }
 
-// n right-justified in so many columns of out, from place `at` on.
+// Spaces in so many columns of out, from place `at` on. The compiler makes two stores of 14 columns, and one of two.
+fn blank(out: &mut [u8], at: usize, width: usize)
+    requires { ⌜ at + width ≤ length (now out) ⌝ }
+    ensures { λ _. ⌜ Blanked (now (out .entry)) at width (now (out .exit)) ⌝ }
+{
+    let mut i: usize = 0;
+    while i < width {
+        out[at + i] = 32;
+        i += 1;
+    }
+}
+
+// n right-justified in so many columns of out, from place `at` on: spaces in all of them, and then its digits from the right.
 fn put(out: &mut [u8], at: usize, width: usize, n: u64)
     requires { ⌜ (0 < width) × (at + width ≤ length (now out)) ⌝ }
     ensures { λ _. ⌜ now (out .exit) ≡ paste (now (out .entry)) at (text width n) width ⌝ }
 {
+    blank(out, at, width);
     let mut i = width - 1;
     let mut rest = n / 10;
     out[at + i] = last_digit(n, rest);
@@ -155,10 +169,6 @@ fn put(out: &mut [u8], at: usize, width: usize, n: u64)
         let tenth = rest / 10;
         out[at + i] = last_digit(rest, tenth);
         rest = tenth;
-    }
-    while 0 < i {
-        i -= 1;
-        out[at + i] = 32;
     }
 }
 
