@@ -2,22 +2,23 @@
 -- Assumes nothing.
 use Prim.Native.Nat.{ℕ, zero, suc, min, _+_, _-_, _≤_, _<_}
 use mathlib.Core.List.{List, [], _∷_, _++_, map}
-use mathlib.Core.Logic.{_⊎_, ⊎-elim, by-cases}
+use mathlib.Core.Logic.{_⊎_, inl, inr, ⊎-elim, by-cases}
 use native.Mathlib.Decide.{decLe}
 use mathlib.Core.Option.{Option, none, some}
 use mathlib.Core.Path.{_≡_, refl, sym, ap, _∙_}
 use native.Mathlib.Numerals.{add-one}
 use native.Mathlib.Omega.{arith}
-use lib.ListN.{length, take, drop, getD, set, length-take, length-drop, length-map, drop-of-length-le}
-use lib.Seq.{drop-cons, getD-take, getD-drop, take-nil, take-suc, take-all, set-at, append-snoc, length-take-le}
+use lib.ListN.{length, take, drop, getD, set, length-append, length-take, length-drop, length-map, drop-of-length-le}
+use lib.Seq.{drop-cons, getD-take, getD-drop, getD-append-add, take-nil, take-suc, take-all, set-at, append-snoc, length-take-le}
 use borrow.Author.Tests.{eq-eqb, ne-eqb}
 use Rattle.train.specs.declared.Train.{Train}
 use Rattle.train.specs.declared.Limit.{Limit}
 use Rattle.table.specs.declared.Table.{Table}
 use Rattle.table_code.specs.declared.Found.the-variants.{At, Nothing}
-use Rattle.table.specs.Table.{blankTrain, onLine, placeIn, trainAt, aheadOf, limitAt}
+use Rattle.table.specs.declared.Change.the-variants.{DropFirst}
+use Rattle.table.specs.Table.{blankTrain, onLine, placeIn, placeOf, trainAt, aheadOf, limitAt, changed}
 use Rattle.table.proofs.Places.{FoundAt}
-use Rattle.table_code.specs.Search.{found}
+use Rattle.table_code.specs.Search.{found, Ended}
 
 -- what is known of a parameter's array speaks of the list mapped to the elements' machine form
 pub long : (X : Type 0) (f : Train → X) (l : List Train) (n : ℕ) → length (map f l) ≡ n → length l ≡ n
@@ -57,12 +58,22 @@ unfolding aheadOf
 ahead-behind t zero h = absurd (h refl)
 ahead-behind t (suc i) h = let e : suc i - 1 ≡ i = omega arith in rw e
 
--- ---- what the search gives
+-- ---- a search that has ended
 
--- what a search gives, taken apart
-pub none-found : (t : Table) (o : Option ℕ) → found t o ≡ Nothing → o ≡ none
-none-found t none e = refl
-none-found t (some i) e = let z : _≡_ {A = ℕ} 0 1 = cc in absurd (omega arith)
+module _ (t : Table) (id i : ℕ) (a x : Train) (size : length (t .trains) ≡ 32) (e : Ended t id i a x) where
+  -- at a train on the line: it is the one that was sought
+  pub ended-here : i < min (t .count) 32 → placeOf t id ≡ some i
+  ended-here h = e .before ∙ find-here t id i size (omega arith) (omega arith) (e .here h)
+
+  -- behind all of them: no train has the id
+  pub ended-behind : min (t .count) 32 ≤ i → placeOf t id ≡ none
+  ended-behind h = e .before ∙ find-end t id i size (by-cases (decLe (t .count) i) (λ l. inl l) (λ l. inr (omega arith)))
+
+-- ---- what the search gives, taken apart
+
+pub none-found : (t : Table) (o : Option ℕ) (limit : Limit) → found t o ≡ Nothing limit → (o ≡ none) × (limit ≡ limitAt t (min (t .count) 32))
+none-found t none limit e = let behind : limitAt t (min (t .count) 32) ≡ limit = cc in (refl, sym behind)
+none-found t (some i) limit e = let z : _≡_ {A = ℕ} 0 1 = cc in absurd (omega arith)
 
 pub one-found : (t : Table) (o : Option ℕ) (i : ℕ) (limit : Limit) (x : Train) → found t o ≡ At i limit x → FoundAt t o i limit x
 one-found t none i limit x e = let z : _≡_ {A = ℕ} 0 1 = cc in absurd (omega arith)
@@ -87,13 +98,30 @@ module _ (l : List Train) (size : length l ≡ 32) where
   behind-long = simp (length-drop) (omega arith)
 
   -- one record more
-  pub up-next : (i : ℕ) → i < 31 → set (upTo l i) i (getD l (i + 1) blankTrain) ≡ upTo l (i + 1)
+  up-next : (i : ℕ) → i < 31 → set (upTo l i) i (getD l (i + 1) blankTrain) ≡ upTo l (i + 1)
   up-next i h =
       let k = behind-long in
       let next : getD (drop 1 l) i blankTrain ≡ getD l (i + 1) blankTrain = getD-drop 1 l i blankTrain ∙ ap (λ (n : ℕ). getD l n blankTrain) (omega arith) in
       rw (← next, add-one, drop-cons l i blankTrain (omega arith), take-suc (drop 1 l) i blankTrain (omega arith))
       (set-at (take i (drop 1 l)) (getD l i blankTrain) (drop (suc i) l) (getD (drop 1 l) i blankTrain) i (length-take-le i (drop 1 l) (omega arith))
       ∙ sym (append-snoc (take i (drop 1 l)) (getD (drop 1 l) i blankTrain) (drop (suc i) l)))
+
+  -- the next one is still where it was
+  up-behind : (i : ℕ) → i < 31 → getD (upTo l i) (i + 1) blankTrain ≡ getD l (i + 1) blankTrain
+  up-behind i h =
+      let k = behind-long in
+      let first : length (take i (drop 1 l)) ≡ i = length-take-le i (drop 1 l) (omega arith) in
+      ap (λ (n : ℕ). getD (upTo l i) (n + 1) blankTrain) (sym first)
+      ∙ getD-append-add (take i (drop 1 l)) (drop i l) 1 blankTrain
+      ∙ getD-drop i l 1 blankTrain
+
+  -- there are as many
+  up-long : (i : ℕ) → i ≤ 31 → length (upTo l i) ≡ 32
+  up-long i h =
+      let k = behind-long in
+      let first : length (take i (drop 1 l)) ≡ i = length-take-le i (drop 1 l) (omega arith) in
+      let rest = length-drop i l in
+      length-append (take i (drop 1 l)) (drop i l) ∙ omega arith
 
   -- of n trains, 32 at most have a place; i is that of the last one
   module _ (n i : ℕ) (last : suc i ≡ min n 32) where
@@ -110,7 +138,33 @@ module _ (l : List Train) (size : length l ≡ 32) where
         (λ h. drop-of-length-le l {i = n} (omega arith) ∙ sym (drop-of-length-le l {i = suc i} (omega arith)))
 
     -- and a blank record there
-    pub up-last : set (upTo l i) i blankTrain ≡ drop 1 (take n l) ++ (blankTrain ∷ drop n l)
+    up-last : set (upTo l i) i blankTrain ≡ drop 1 (take n l) ++ (blankTrain ∷ drop n l)
     up-last =
         rw (all-taken, all-dropped, drop-take i l, drop-cons l i blankTrain (omega arith))
         (set-at (take i (drop 1 l)) (getD l i blankTrain) (drop (suc i) l) blankTrain i (length-take-le i (drop 1 l) (omega (arith, behind-long))))
+
+-- ---- moving up in a table, where it stands
+
+abbrev pub movedUp : Table → ℕ → Table
+movedUp t i = record { trains = upTo (t .trains) i; settings = t .settings; count = t .count }
+
+module _ (t : Table) (size : length (t .trains) ≡ 32) where
+  -- the record behind place i, put there
+  pub moved-on : (u : Table) (i : ℕ) → i < 31 → u ≡ movedUp t i
+      → record { trains = set (u .trains) i (getD (u .trains) (i + 1) blankTrain); settings = u .settings; count = u .count } ≡ movedUp t (i + 1)
+  moved-on u i h e =
+      ap (λ (v : Table). record { trains = set (v .trains) i (getD (v .trains) (i + 1) blankTrain); settings = v .settings; count = v .count }) e
+      ∙ ap (λ (l : List Train). record { trains = l; settings = t .settings; count = t .count })
+      (ap (set (upTo (t .trains) i) i) (up-behind (t .trains) size i h) ∙ up-next (t .trains) size i h)
+
+  -- all moved up, and a blank record at the place of the last
+  pub moved-all : (u : Table) (i last : ℕ) (b : Train) → 0 < t .count → i ≡ last → last ≡ min (t .count) 32 - 1 → u ≡ movedUp t i → b ≡ blankTrain
+      → record { trains = set (u .trains) last b; settings = u .settings; count = t .count - 1 } ≡ changed t DropFirst
+  moved-all u i last b some-train same there e f =
+      ap (λ (v : Table). record { trains = set (v .trains) last b; settings = v .settings; count = t .count - 1 }) (e ∙ ap (movedUp t) same)
+      ∙ ap (λ (l : List Train). record { trains = l; settings = t .settings; count = t .count - 1 })
+      (ap (set (upTo (t .trains) last) last) f ∙ up-last (t .trains) size (t .count) last (omega arith))
+
+  -- a table that is moving up has all its places
+  pub moved-long : (u : Table) (i : ℕ) → i ≤ 31 → u ≡ movedUp t i → length (u .trains) ≡ 32
+  moved-long u i h e = ap (λ (v : Table). length (v .trains)) e ∙ up-long (t .trains) size i h

@@ -1,26 +1,28 @@
 // Finds trains in the table, and changes it. The table goes in and comes back by value.
 ghost use mathlib.Core.Path.{_≡_};
 ghost use Prim.Native.Nat.{min, _-_, _<_};
+ghost use Rattle.train.specs.Ranges.{settingsOf};
 ghost use Rattle.table.specs.Table.{places, blankTrain, emptyTable, placeOf, trainAt, limitAt, changed, Fits};
-ghost use Rattle.table_code.specs.Search.{found};
+ghost use Rattle.table_code.specs.Search.{found, Ended};
 use brake::Figures;
+use calls::Opening;
 use motion::Motion;
 use motion::Order;
 use table::Change;
 use table::PLACES;
 use table::Table;
 use train::Limit;
-use train::Settings;
 use train::Train;
 
-// What a call needs of the train that it names: its place, its limit and its record.
+// What a call needs of the table: the place, the limit and the record of the train that it names. Where no train has that id: the limit of
+// a train that enters behind the last.
 pub enum Found {
     At(usize, Limit, Train),
-    Nothing,
+    Nothing(Limit),
 }
 
 // What stands in a place without a train. No call reads it.
-fn blank_train() -> Train
+pub fn blank_train() -> Train
     ensures { λ r. ⌜ r ≡ blankTrain ⌝ }
 {
     Train {
@@ -38,51 +40,95 @@ fn blank_train() -> Train
     }
 }
 
-pub fn empty_table(s: Settings) -> Table
-    ensures { λ r. ⌜ r ≡ emptyTable s ⌝ }
+// A table as it was opened, with no train.
+pub fn new_table(o: Opening) -> Table
+    ensures { λ r. ⌜ r ≡ emptyTable (settingsOf o) ⌝ }
 {
     let blank = blank_train();
+    let settings = train_code::settings_of(o);
     Table {
         trains: [blank; PLACES],
-        settings: s,
+        settings,
         count: 0,
     }
 }
 
-// The train with this id. Whatever the count, no place past the last is read. The limit is worked out here, where the record ahead is at
-// hand: passed to another function, the table would be copied once more.
+// ---- the search. Whoever holds a table searches it where it stands, as `find` does: given to a function, the whole table would be copied. For
+// that the steps of the search have names here.
+
+// How many places n trains have. Whatever the count, no place past the last is read.
+pub fn places_taken(n: usize) -> usize
+    ensures { λ r. ⌜ r ≡ min n places ⌝ }
+{
+    if n < PLACES {
+        return n;
+    }
+    PLACES
+}
+
+// The place ahead of place i. The first place has none ahead, and gives itself.
+pub fn place_ahead(i: usize) -> usize
+    ensures { λ r. ⌜ r ≡ i - 1 ⌝ }
+{
+    if i == 0 {
+        return 0;
+    }
+    i - 1
+}
+
+// Place i, or the last place where a search has passed all.
+pub fn place_within(i: usize) -> usize
+    ensures { λ r. ⌜ r ≡ min i (places - 1) ⌝ }
+{
+    if i < PLACES {
+        return i;
+    }
+    PLACES - 1
+}
+
+// The limit at place i, behind the train ahead. Of the table itself only the settings are read; the rest of it is for the contract.
+fn limit_at(t: Table, i: usize, ahead: Train) -> Limit
+    requires { ⌜ (0 < i → ahead ≡ trainAt t (i - 1)) ⌝ }
+    ensures { λ r. ⌜ r ≡ limitAt t i ⌝ }
+{
+    let s = t.settings;
+    if i == 0 {
+        return Limit::Place(s.end);
+    }
+    train_code::limit_behind(s, ahead)
+}
+
+// What a search that has ended at place i has found. Of the table itself only settings and count are read; the rest of it is for the
+// contract, and so is the id.
+pub fn found_at(t: Table, id: u64, i: usize, ahead: Train, there: Train) -> Found
+    requires { ⌜ Ended t id i ahead there ⌝ }
+    ensures { λ r. ⌜ r ≡ found t (placeOf t id) ⌝ }
+{
+    let n = t.count;
+    let limit = limit_at(t, i, ahead);
+    if i < places_taken(n) {
+        return Found::At(i, limit, there);
+    }
+    Found::Nothing(limit)
+}
+
+// The train with this id.
 pub fn find(t: Table, id: u64) -> Found
     ensures { λ r. ⌜ r ≡ found t (placeOf t id) ⌝ }
 {
-    let s = t.settings;
-    let n = t.count;
+    let taken = places_taken(t.count);
     let mut i: usize = 0;
-    while i < PLACES {
-        if n <= i {
-            return Found::Nothing;
-        }
-        if t.trains[i].id == id {
-            let x = t.trains[i];
-            if i == 0 {
-                return Found::At(i, Limit::Place(s.end), x);
-            }
-            let ahead = t.trains[i - 1];
-            return Found::At(i, train_code::limit_behind(s, ahead), x);
-        }
+    while i < taken && t.trains[i].id != id {
         i += 1;
     }
-    Found::Nothing
+    let j = place_ahead(i);
+    let ahead = t.trains[j];
+    let k = place_within(i);
+    let there = t.trains[k];
+    found_at(t, id, i, ahead, there)
 }
 
-// Total: past the last place there is a blank train.
-fn train_at(t: Table, i: usize) -> Train
-    ensures { λ r. ⌜ r ≡ trainAt t i ⌝ }
-{
-    if i < PLACES {
-        return t.trains[i];
-    }
-    blank_train()
-}
+// ---- changes
 
 // Another record for the train at place i.
 fn with_train(t: Table, i: usize, x: Train) -> Table
@@ -107,7 +153,7 @@ fn with_last(t: Table, x: Train) -> Table
 }
 
 // The place of the last of n trains.
-fn last_place(n: usize) -> usize
+pub fn last_place(n: usize) -> usize
     requires { ⌜ 0 < n ⌝ }
     ensures { λ r. ⌜ r ≡ min n places - 1 ⌝ }
 {
@@ -127,7 +173,8 @@ fn without_first(t: Table) -> Table
     let mut u = t;
     let mut i: usize = 0;
     while i < last {
-        u.trains[i] = t.trains[i + 1];
+        let behind = u.trains[i + 1];
+        u.trains[i] = behind;
         i += 1;
     }
     u.trains[last] = blank_train();
@@ -145,18 +192,6 @@ pub fn carry_out(t: Table, c: Change) -> Table
         Change::Put(i, x) => with_train(t, i, x),
         Change::Add(x) => with_last(t, x),
         Change::DropFirst => without_first(t),
-        Change::Anew(o) => empty_table(train_code::settings_of(o)),
+        Change::Anew(o) => new_table(o),
     }
-}
-
-// The limit of the train at place i.
-pub fn limit_at(t: Table, i: usize) -> Limit
-    ensures { λ r. ⌜ r ≡ limitAt t i ⌝ }
-{
-    let s = t.settings;
-    if i == 0 {
-        return Limit::Place(s.end);
-    }
-    let ahead = train_at(t, i - 1);
-    train_code::limit_behind(s, ahead)
 }

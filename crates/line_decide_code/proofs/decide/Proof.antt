@@ -1,41 +1,18 @@
 -- `line_decide_code::decide` meets its contract.
 -- Assumes nothing.
-use mathlib.Core.Path.{sym, _∙_}
-use borrow.Author.Tests.{not-true, not-false}
-use Rattle.line.specs.Decide.{decided}
+use mathlib.Core.Path.{ap, _∙_}
+use Prim.Native.Nat.{ℕ}
+use Rattle.table.specs.Table.{placeOf}
+use Rattle.table_code.specs.Search.{found}
 use borrow.Author.Needs.{needs}
 use Rattle.line_decide_code.proofs.decide.Statement.{statement}
 use Rattle.line_decide_code.proofs.decide.Tie as tie
 
-returns : tie.Need-returns
-unfolding decided
-returns c =
-    let q = c .before in
-    simp (sym (q .before .out-of-turn .ensures) ∙ q .if1 .taken) (c .refuse .ensures)
-
-returns-2 : tie.Need-returns-2
-unfolding decided
-returns-2 c =
-    let q = c .before in
-    let turn = q .before .before in
-    simp (sym (turn .before .out-of-turn .ensures) ∙ turn .if1 .left, sym (q .before .may-ask .ensures) ∙ not-true _ (q .if2 .taken)) (c .refuse2 .ensures)
-
-returns-3 : tie.Need-returns-3
-unfolding decided
-returns-3 c =
-    let q = c .before in
-    let turn = q .before .before in
-    simp (sym (turn .before .out-of-turn .ensures) ∙ turn .if1 .left, sym (q .before .may-ask .ensures) ∙ not-false _ (q .if2 .left)) (c .decide-ask .ensures)
+decide-found-requires : tie.Need-decide-found-requires
+decide-found-requires c κs =
+    let n = c .before in
+    let t = n .before .args .t in
+    c .find .ensures ∙ ap (λ (id : ℕ). found t (placeOf t id)) (n .id-named .ensures)
 
 pub decide-spec : {M : Type 1} → statement M
-decide-spec =
-    tie.close
-    (tie.spec
-    (λ c κs. search needs)
-    (λ c κs. search needs)
-    returns
-    (λ c κs. search needs)
-    (λ c κs. search needs)
-    returns-2
-    (λ c κs. search needs)
-    returns-3)
+decide-spec = tie.close (tie.spec (λ c κs. search needs) (λ c κs. search needs) decide-found-requires (λ c. search needs))

@@ -5,6 +5,9 @@ use borrow.Author.Needs.{needs}
 use Rattle.line_decide_code.proofs.decide_ask.Statement.{statement}
 use Rattle.line_decide_code.proofs.decide_ask.Tie as tie
 
+decide-call-requires : tie.Need-decide-call-requires
+decide-call-requires c κs = rw (c .before .a2 .given .1) at (c .before .before .before .pre)
+
 returns : tie.Need-returns
 unfolding decideOn
 returns c = rw (c .before .before .a .given .1) (c .decide-open .ensures)
@@ -19,6 +22,6 @@ decide-ask-spec =
     (λ c. search needs)
     (λ c κs. search needs)
     (λ c. search needs)
-    (λ c κs. search needs)
+    decide-call-requires
     returns
     returns-2)

@@ -32,7 +32,8 @@ returns-2 c =
 
 enter-with-requires : tie.Need-enter-with-requires
 enter-with-requires c κs =
-    (tested (c .before) ∙ not-false _ (c .if1 .left), given-length _ _ _ (given (c .before .before .before .before .before)))
+    let k = c .before .before .before .before .before in
+    (tested (c .before) ∙ not-false _ (c .if1 .left), given-length _ _ _ (given k), k .before .before .before .before .pre)
 
 returns-3 : tie.Need-returns-3
 returns-3 c =

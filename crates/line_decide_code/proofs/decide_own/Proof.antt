@@ -11,15 +11,15 @@ use Rattle.line_decide_code.proofs.decide_own.Statement.{statement}
 use Rattle.line_decide_code.proofs.decide_own.Tie as tie
 
 returns : tie.Need-returns
-returns c = c .refuse .ensures ∙ sym (own-unknown _ _ _ (none-found _ _ (sym (c .before .before .before .find .ensures) ∙ c .before .enum-told .given .1)))
+returns c = c .refuse .ensures ∙ sym (own-unknown _ _ _ (none-found _ _ _ (sym (c .before .before .before .pre) ∙ c .before .enum-told .given .1) .0))
 
 -- what is decided of the train that was found
-decided : (c : tie.After-decide) → let i = c .before .before .before in let a = i .before .before .before .args in
-    decideOn (a .t) (OnTable (Own (a .id) (a .a))) ≡ placed (i .i .given .0 .0) (c .decide .result)
+decided : (c : tie.After-decide) → let i = c .before .before .before in let a = i .before .before .args in
+    decideOn (a .t) (OnTable (Own (a .id) (a .a))) ≡ placed (i .f .given .0 .0) (c .decide .result)
 decided c =
     let i = c .before .before .before in
-    let a = i .before .before .before .args in
-    rw (c .decide .ensures) (own-found (a .t) (a .id) _ _ _ (one-found _ _ _ _ _ (sym (i .before .before .find .ensures) ∙ i .i .given .1)) (a .a))
+    let a = i .before .before .args in
+    rw (c .decide .ensures) (own-found (a .t) (a .id) _ _ _ (one-found _ _ _ _ _ (sym (i .before .before .pre) ∙ i .f .given .1)) (a .a))
 
 returns-2 : tie.Need-returns-2
 returns-2 c =
@@ -35,7 +35,6 @@ pub decide-own-spec : {M : Type 1} → statement M
 decide-own-spec =
     tie.close
     (tie.spec
-    (λ c κs. search needs)
     (λ c. search needs)
     (λ c. search needs)
     (λ c κs. search needs)

@@ -11,13 +11,13 @@ use Rattle.line_decide_code.proofs.decide_take_off.Statement.{statement
 use Rattle.line_decide_code.proofs.decide_take_off.Tie as tie
 
 returns : tie.Need-returns
-returns c = c .refuse .ensures ∙ sym (take-off-unknown _ _ (none-found _ _ (sym (c .before .before .before .find .ensures) ∙ c .before .enum-told .given .1)))
+returns c = c .refuse .ensures ∙ sym (take-off-unknown _ _ (none-found _ _ _ (sym (c .before .before .before .pre) ∙ c .before .enum-told .given .1) .0))
 
 -- the train was found
-seen : (c : tie.After-i) → let a = c .before .before .before .args in
-    let g = c .i .given .0 in
+seen : (c : tie.After-f) → let a = c .before .before .args in
+    let g = c .f .given .0 in
     FoundAt (a .t) (placeOf (a .t) (a .id)) (g .0) (g .1 .0) (g .1 .1 .0)
-seen c = one-found _ _ _ _ _ (sym (c .before .before .find .ensures) ∙ c .i .given .1)
+seen c = one-found _ _ _ _ _ (sym (c .before .before .pre) ∙ c .f .given .1)
 
 returns-2 : tie.Need-returns-2
 returns-2 c =
@@ -35,7 +35,6 @@ pub decide-take-off-spec : {M : Type 1} → statement M
 decide-take-off-spec =
     tie.close
     (tie.spec
-    (λ c κs. search needs)
     (λ c. search needs)
     (λ c. search needs)
     (λ c κs. search needs)

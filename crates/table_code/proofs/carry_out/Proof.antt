@@ -25,7 +25,7 @@ returns-4 : tie.Need-returns-4
 returns-4 c = rw (c .before .enum-told2 .given .1) (c .without-first .ensures)
 
 returns-5 : tie.Need-returns-5
-returns-5 c = rw (c .before .before .before .c3 .given .1, c .empty-table .ensures, c .before .settings-of .ensures)
+returns-5 c = rw (c .before .before .c3 .given .1) (c .new-table .ensures)
 
 pub carry-out-spec : {M : Type 1} → statement M
 carry-out-spec =
@@ -39,7 +39,6 @@ carry-out-spec =
     (λ c. search needs)
     without-first-requires
     (λ c. search needs)
-    (λ c κs. search needs)
     (λ c κs. search needs)
     (λ c. search needs)
     returns-2

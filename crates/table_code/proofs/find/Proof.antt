@@ -1,77 +1,32 @@
--- `table_code::find` meets its contract.
+-- `table_code::find` meets its contract. The loop's invariant: no train before place i has the id.
 -- Assumes nothing.
-use Prim.Native.Nat.{_≤_, _-_}
-use mathlib.Core.Logic.{inl, inr}
-use mathlib.Core.Option.{some}
-use mathlib.Core.Path.{_≡_, refl, sym, ap, _∙_}
+use Prim.Native.Nat.{min, _-_, _≤_}
+use mathlib.Core.Logic.{⊎-elim}
+use mathlib.Core.Path.{_≡_, refl, ap, _∙_}
 use native.Mathlib.Omega.{arith}
 use lib.ListN.{drop, length}
+use borrow.Author.Tests.{eqb-true, eqb-false, not-true, not-false}
+use Rattle.table.specs.Table.{onLine, placeIn, placeOf, trainAt}
+use Rattle.table_code.proofs.Places.{long, find-next}
 use borrow.Author.Needs.{needs}
-use Rattle.train.proofs.Track.{limit-first}
-use Rattle.table.specs.Table.{onLine, placeIn, placeOf}
-use Rattle.table_code.specs.Search.{found}
-use Rattle.table_code.proofs.Places.{long, find-end, find-here, find-next, ahead-first, ahead-behind}
 use Rattle.table_code.proofs.find.Statement.{statement}
 use Rattle.table_code.proofs.find.Tie as tie
 
 abbrev Inv-loop : tie.InvT-loop
-Inv-loop id t s n i₀ i = (i ≤ 32) × (placeOf t id ≡ placeIn (drop i (onLine t)) id i)
+Inv-loop id t taken i₀ i = (i ≤ taken) × (placeOf t id ≡ placeIn (drop i (onLine t)) id i)
 
 abbrev μ-loop : tie.MeasureT-loop
-μ-loop id t s n i₀ i = 32 - i
+μ-loop id t taken i₀ i = taken - i
 
 loop-holds : tie.Need-loop-holds Inv-loop μ-loop
 unfolding placeOf
 loop-holds c = (omega arith, refl)
 
-returns : tie.Need-returns Inv-loop μ-loop
-returns c =
-    let k = c .before .before in
-    let a = k .before .before .args in
-    let size : length (a .t1 .trains) ≡ 32 = search (needs, long) in
-    sym (ap (found (a .t1)) (k .loop .inv .1 ∙ find-end (a .t1) (a .id) _ size (inl (c .if1 .taken))))
+mul-if1 : tie.Need-mul-if1 Inv-loop μ-loop
+mul-if1 c = omega (arith, c .before .before .places-taken .ensures)
 
-mul-if2 : tie.Need-mul-if2 Inv-loop μ-loop
-mul-if2 c = omega arith
-
-element-copy-out-if2 : tie.Need-element-copy-out-if2 Inv-loop μ-loop
-element-copy-out-if2 c = omega arith
-
-mul-x : tie.Need-mul-x Inv-loop μ-loop
-mul-x c = omega arith
-
-element-copy-out-x : tie.Need-element-copy-out-x Inv-loop μ-loop
-element-copy-out-x c = omega arith
-
--- the train is here
-here : (c : tie.Then2 Inv-loop μ-loop) → let k = c .before .before .before in let a = k .before .before .args in placeOf (a .t1) (a .id) ≡ some (k .loop .i)
-here c =
-    let k = c .before .before .before in
-    let a = k .before .before .args in
-    let size : length (a .t1 .trains) ≡ 32 = search (needs, long) in
-    k .loop .inv .1 ∙ find-here (a .t1) (a .id) _ size (omega arith) (omega arith) (c .if2 .taken)
-
-returns-2 : tie.Need-returns-2 Inv-loop μ-loop
-returns-2 c =
-    let h = c .before .before in
-    let a = h .before .before .before .before .before .args in
-    sym (ap (found (a .t1)) (here h) ∙ rw (ahead-first _ _ (c .if3 .taken), limit-first _))
-
-sub-ahead : tie.Need-sub-ahead Inv-loop μ-loop
-sub-ahead c = omega arith
-
-mul-ahead : tie.Need-mul-ahead Inv-loop μ-loop
-mul-ahead c = omega arith
-
-element-copy-out-ahead : tie.Need-element-copy-out-ahead Inv-loop μ-loop
-element-copy-out-ahead c = omega arith
-
-returns-3 : tie.Need-returns-3 Inv-loop μ-loop
-returns-3 c =
-    let behind = c .before .before in
-    let h = behind .before .before in
-    let a = h .before .before .before .before .before .args in
-    rw (c .limit-behind .ensures) (sym (ap (found (a .t1)) (here h) ∙ rw (ahead-behind _ _ (behind .if3 .left))))
+element-copy-out-if1 : tie.Need-element-copy-out-if1 Inv-loop μ-loop
+element-copy-out-if1 c = omega (arith, c .before .before .places-taken .ensures)
 
 add-i : tie.Need-add-i Inv-loop μ-loop
 add-i c = omega arith
@@ -81,17 +36,42 @@ loop-less c = omega arith
 
 loop-again : tie.Need-loop-again Inv-loop μ-loop
 loop-again c =
-    let k = c .before .before .before in
+    let k = c .before .before in
     let a = k .before .before .args in
     let size : length (a .t1 .trains) ≡ 32 = search (needs, long) in
-    (omega arith, k .loop .inv .1 ∙ find-next (a .t1) (a .id) _ size (omega arith) (omega arith) (c .if2 .left))
+    let few = k .before .places-taken .ensures in
+    (omega arith, k .loop .inv .1 ∙ find-next (a .t1) (a .id) (k .loop .i) size (omega arith) (omega arith) (eqb-false _ _ (not-true _ (c .if1 .taken))))
 
-returns-4 : tie.Need-returns-4 Inv-loop μ-loop
-returns-4 c =
-    let k = c .before in
-    let a = k .before .before .args in
-    let size : length (a .t1 .trains) ≡ 32 = search (needs, long) in
-    sym (ap (found (a .t1)) (k .loop .inv .1 ∙ find-end (a .t1) (a .id) _ size (inr (c .loop-test .left))))
+-- the search has ended at a place that is there, or behind the last train
+within : (c : tie.Left-loop Inv-loop μ-loop) → let k = c .before in k .loop .i ≤ min (k .before .before .args .t1 .count) 32
+within c = omega (arith, c .before .loop .inv .0, c .before .before .places-taken .ensures)
+
+mul-ahead : tie.Need-mul-ahead Inv-loop μ-loop
+mul-ahead c = omega (arith, within (c .before), c .place-ahead .ensures)
+
+element-copy-out-ahead : tie.Need-element-copy-out-ahead Inv-loop μ-loop
+element-copy-out-ahead c = omega (arith, within (c .before), c .place-ahead .ensures)
+
+mul-there : tie.Need-mul-there Inv-loop μ-loop
+mul-there c = omega (arith, c .place-within .ensures)
+
+element-copy-out-there : tie.Need-element-copy-out-there Inv-loop μ-loop
+element-copy-out-there c = omega (arith, c .place-within .ensures)
+
+found-at-requires : tie.Need-found-at-requires Inv-loop μ-loop
+found-at-requires c κs =
+    let w = c .before in
+    let p = w .before .before in
+    let end = p .before in
+    let k = end .before in
+    let t = k .before .before .args .t1 in
+    record {
+      within = within end;
+      before = k .loop .inv .1;
+      here = λ h. ⊎-elim (λ v. eqb-true _ _ (not-false _ (v .1 .left))) (λ v. absurd (omega (arith, v .left, k .before .places-taken .ensures, h))) (end .loop-test .came);
+      ahead = λ h. ap (trainAt t) (p .place-ahead .ensures);
+      there = λ h. let same : w .place-within .result ≡ k .loop .i = omega (arith, w .place-within .ensures, h) in ap (trainAt t) same;
+    }
 
 pub find-spec : {M : Type 1} → statement M
 find-spec =
@@ -99,19 +79,18 @@ find-spec =
     (tie.spec
     Inv-loop
     μ-loop
-    loop-holds
-    returns
-    mul-if2
-    element-copy-out-if2
-    mul-x
-    element-copy-out-x
-    returns-2
-    sub-ahead
-    mul-ahead
-    element-copy-out-ahead
     (λ c κs. search needs)
-    returns-3
+    loop-holds
+    mul-if1
+    element-copy-out-if1
     add-i
     loop-less
     loop-again
-    returns-4)
+    (λ c κs. search needs)
+    mul-ahead
+    element-copy-out-ahead
+    (λ c κs. search needs)
+    mul-there
+    element-copy-out-there
+    found-at-requires
+    (λ c. search needs))
