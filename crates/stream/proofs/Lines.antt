@@ -48,13 +48,13 @@ read-long l h =
     let e : (length (kept l) ≡ callWidth → ⊥) = λ p. omega (arith, length-take keptWidth l) in
     simp (ne-eqb (length (kept l)) callWidth e, ne-eqb (length l) callWidth (λ p. omega arith))
 
-read-kept : (l : List ℕ) → lineRead (kept l) ≡ lineRead l
+pub read-kept : (l : List ℕ) → lineRead (kept l) ≡ lineRead l
 read-kept l =
     by-test (leb (length l) keptWidth)
     (λ e. ap lineRead (take-all keptWidth l (leb-true _ _ e)))
     (λ e. read-long l (leb-false _ _ e))
 
-kept-append : (n : ℕ) (l r : List ℕ) → take n (take n l ++ r) ≡ take n (l ++ r)
+pub kept-append : (n : ℕ) (l r : List ℕ) → take n (take n l ++ r) ≡ take n (l ++ r)
 kept-append zero l r = refl
 kept-append (suc n) [] r = refl
 kept-append (suc n) (x ∷ l) r = ap (λ (m : List ℕ). x ∷ m) (kept-append n l r)
@@ -92,11 +92,6 @@ standing-kept s g w (b ∷ bs) =
     ∙ standing-kept s (g ++ (b ∷ [])) w bs
     ∙ sym (standing-byte s g w b bs h))
 
--- a byte of a line: it is kept if it is among the first ones
-standing-more : (s : Session) (g w : List ℕ) (b : ℕ) (bs : List ℕ) → (b ≡ 10 → ⊥)
-    → standing s g w (b ∷ bs) ≡ standing s (kept (g ++ (b ∷ []))) w bs
-standing-more s g w b bs h = standing-byte s g w b bs h ∙ sym (standing-kept s (g ++ (b ∷ [])) w bs)
-
 -- no byte more
 pub standing-end : (s : Session) (g w : List ℕ) → standing s g w [] ≡ record { session = s; begins = kept g; written = w }
 unfolding lines rest after answers
@@ -121,12 +116,9 @@ module _ (s : Session) (g w piece : List ℕ) (i : ℕ) (more : i < length piece
   next : standing s g w (drop i piece) ≡ standing s g w (getD piece i 0 ∷ drop (i + 1) piece)
   next = ap (standing s g w) (rw (add-one i) (drop-cons piece i 0 more))
 
-  -- the byte at place i is kept
-  pub byte-taken : (h : List ℕ) → (getD piece i 0 ≡ 10 → ⊥) → h ≡ kept (g ++ (getD piece i 0 ∷ []))
-      → standing s g w (drop i piece) ≡ standing s h w (drop (i + 1) piece)
-  byte-taken h n e =
-      next ∙ standing-more s g w (getD piece i 0) (drop (i + 1) piece) n
-      ∙ ap (λ (l : List ℕ). standing s l w (drop (i + 1) piece)) (sym e)
+  -- the byte at place i is of the line that has begun
+  pub byte-taken : (getD piece i 0 ≡ 10 → ⊥) → standing s g w (drop i piece) ≡ standing s (g ++ (getD piece i 0 ∷ [])) w (drop (i + 1) piece)
+  byte-taken n = next ∙ standing-byte s g w (getD piece i 0) (drop (i + 1) piece) n
 
   -- the line feed at place i: the line is answered
   pub line-taken : (d : Decision) (v : List ℕ) → getD piece i 0 ≡ 10 → d ≡ lineDecision s (lineRead g) → v ≡ w ++ outputLine (numbersOf (d .answer))
