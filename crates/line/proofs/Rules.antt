@@ -159,7 +159,7 @@ module _ (t : Table) (e : Entry) where
           let tests = both (idInRange (e .id)) (startInRange (e .start)) ranged in
           let d = figures-exactly (e .load) (e .length) k .0 f in
           absurd (out (record { id = train-id (e .id) .0 (tests .0); length = (d .shortest, d .longest); load = class-listed (d .per-car); start = starting-number (e .start) .0 (tests .1) .1 })))
-          (λ bad. entered _ (enter-fit t e k f ∙ enter-bad t e k bad))
+          (λ bad. entered _ (enter-bad t e bad))
 
   module _ (r : Enters e) where
     ranged : (idInRange (e .id) && startInRange (e .start)) ≡ true

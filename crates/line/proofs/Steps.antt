@@ -180,11 +180,16 @@ module _ (t : Table) (e : Entry) where
   unfolding decideOn
   enter-fit k f = ap (enterDecision t e) f
 
-  module _ (k : Figures) where
-    pub enter-bad : (idInRange (e .id) && startInRange (e .start)) ≡ false → enterDecision t e (Given k) ≡ refused BadEntry
-    unfolding enterDecision firstOf
-    enter-bad a = rw (a, enterDecision)
+  -- whatever the consist
+  pub enter-bad : (idInRange (e .id) && startInRange (e .start)) ≡ false → decideOn t (OnTable (Enter e)) ≡ refused BadEntry
+  unfolding decideOn enterDecision firstOf
+  enter-bad a = go (figuresFor (t .settings) e)
+    where
+      go : (f : FiguresFound) → enterDecision t e f ≡ refused BadEntry
+      go NoFigures = refl
+      go (Given k) = rw (a, enterDecision)
 
+  module _ (k : Figures) where
     module _ (a : (idInRange (e .id) && startInRange (e .start)) ≡ true) where
       pub enter-known : (i : ℕ) → placeOf t (e .id) ≡ some i → enterDecision t e (Given k) ≡ refused OnLine
       unfolding enterDecision firstOf

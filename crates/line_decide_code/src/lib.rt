@@ -59,13 +59,13 @@ fn decide_enter(t: Table, f: Found, e: Entry) -> Decision
     requires { ⌜ f ≡ foundFor t (Ask.OnTable (Call.Enter e)) ⌝ }
     ensures { λ d. ⌜ d ≡ decideOn t (Ask.OnTable (Call.Enter e)) ⌝ }
 {
+    if !logic::both(ranges::id_in_range(e.id), ranges::start_in_range(e.start)) {
+        return refuse(Refusal::BadEntry);
+    }
     let s = t.settings;
     let FiguresFound::Given(k) = train_code::figures_for(s, e) else {
         return refuse(Refusal::BadEntry);
     };
-    if !logic::both(ranges::id_in_range(e.id), ranges::start_in_range(e.start)) {
-        return refuse(Refusal::BadEntry);
-    }
     enter_with(t, f, e, k)
 }
 
