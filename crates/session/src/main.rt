@@ -4,15 +4,15 @@
 ghost use mathlib.Core.Path.{_≡_};
 ghost use Prim.Native.Nat.{_*_, _≤_, _<_};
 ghost use lib.ListN.{length, take};
-ghost use Rattle.stream.specs.Input.{lastAnswer, begun, outputWidth, answersTo, Turn};
-ghost use Rattle.session.specs.Program.{TookIn, Stopped, Whole};
+ghost use Rattle.stream.specs.Input.{lastAnswer, begun, outputWidth, answersTo};
+ghost use Rattle.session.specs.Program.{ReadOnce, TookIn, Stopped, Whole};
 use stream::Stream;
 
-// What comes of a turn: the stream after it, how many bytes were read, and whether the answers could be written.
-struct After {
+// What comes of a read: the stream after it, how many bytes were read, and how many bytes of answers stand at the front of `out`.
+struct Took {
     stream: Stream,
-    count: usize,
-    written: bool,
+    read: usize,
+    answered: usize,
 }
 
 // What comes of all turns: the stream after them, how many bytes were read, whether the input ended, and whether the answers could be
@@ -46,27 +46,28 @@ fn write_last(x: Stream, bytes: &[u8]) -> bool
     io::write_all(1, bytes)
 }
 
-// Reads once, and writes the answers to all lines that are whole by then: a train waits at the other end. `out` has room for every
-// piece, so that each is taken. At the end of the input the piece is empty.
-fn turn(x: Stream, piece: &mut [u8], out: &mut [u8]) -> After
+// Reads once, and answers all lines that are whole by then. `out` has room for every piece, so that each is taken. At the end of the input
+// the piece is empty.
+fn take_in(x: Stream, piece: &mut [u8], out: &mut [u8]) -> Took
     requires { ⌜ outputWidth * length (now piece) ≤ length (now out) ⌝ }
-    ensures { λ r. ⌜ (r .count ≤ length (now (piece .exit))) × Turn x (take (r .count) (now (piece .exit))) (r .stream) ⌝ }
+    ensures { λ r. ⌜ ReadOnce x (r .read) (r .answered) (r .stream) (now (piece .exit)) (now (out .exit)) ⌝ }
 {
     let got = libc::read(0, piece);
     let n = io::count(got, piece);
     let fed = stream_code::feed(x, &piece[..n], out);
     let stream = fed.stream;
-    let count = fed.count;
-    let written = write_answers(x, &piece[..n], &out[..count]);
-    After {
+    let answered = fed.count;
+    Took {
         stream,
-        count: n,
-        written,
+        read: n,
+        answered,
     }
 }
 
-// Reads to the end of the input, or until standard output cannot be written. A proved loop has to end, and nothing says that an input
-// does. So the loop counts the bytes, up to a number that no run reaches.
+// Reads to the end of the input, or until standard output cannot be written. After each read the answers are written: a train waits at the
+// other end. The stream of before is for the contract of that; the next one is in its place by then, since the compiler would copy it once
+// more across the write. A proved loop has to end, and nothing says that an input does. So the loop counts the bytes, up to a number that no
+// run reaches.
 fn run(x: Stream, piece: &mut [u8], out: &mut [u8]) -> Ran
     requires { ⌜ outputWidth * length (now piece) ≤ length (now out) ⌝ }
     ensures { λ r. ⌜ TookIn x (r .read) (r .stream) × Stopped (r .ended) (r .written) (r .read) (now (piece .exit)) ⌝ }
@@ -74,10 +75,12 @@ fn run(x: Stream, piece: &mut [u8], out: &mut [u8]) -> Ran
     let mut y = x;
     let mut read: usize = 0;
     while read <= usize::MAX - piece.len() {
-        let t = turn(y, piece, out);
-        let n = t.count;
-        let written = t.written;
+        let t = take_in(y, piece, out);
+        let n = t.read;
+        let answered = t.answered;
+        let before = y;
         y = t.stream;
+        let written = write_answers(before, &piece[..n], &out[..answered]);
         read += n;
         if n == 0 {
             return Ran {

@@ -9,10 +9,11 @@ pub const KEPT_WIDTH: usize = wire::CALL_WIDTH + 1;
 // Room for them and for one byte more: a byte that is not kept is written there, so that no byte needs a test before it is stored.
 pub const ROOM: usize = KEPT_WIDTH + 1;
 
-// The state between lines: whether an opening was accepted, and the table that it made.
+// The state between lines: the table that an opening made, and whether one was accepted. Here and in `Fed` the table comes before the flag:
+// behind one, the compiler copies it once more for each piece of the input.
 pub struct Session {
-    pub opened: bool,
     pub table: Table,
+    pub opened: bool,
 }
 
 // The answer to a line, and the state after it.
@@ -28,11 +29,11 @@ pub struct Stream {
     pub count: usize,
 }
 
-// What became of a piece of the input: whether it was taken, the stream after it, and how many bytes were written.
+// What became of a piece of the input: the stream after it, how many bytes were written, and whether it was taken.
 pub struct Fed {
-    pub taken: bool,
     pub stream: Stream,
     pub count: usize,
+    pub taken: bool,
 }
 
 // What became of the end of the input: whether out had room for the answer to a last line, and how many bytes were written.

@@ -5,7 +5,7 @@ use mathlib.Core.Path.{_≡_, refl, ap}
 use mathlib.Core.Bool.{not, true≢false}
 use mathlib.Core.List.{List, []}
 use Prim.Native.Nat.{ℕ, _+_, _-_, _≤_}
-use lib.ListN.{length, take, length-append}
+use lib.ListN.{length, take, length-append, length-take}
 use lib.Seq.{length-take-le}
 use borrow.Author.Needs.{needs}
 use Rattle.logic.proofs.Tests.{not-both}
@@ -35,22 +35,41 @@ took-more x y z read n piece t h m =
 loop-holds : tie.Need-loop-holds Inv-loop μ-loop
 loop-holds c = (refl, refl, record { input = []; answered = []; turns = no-turns; count = refl })
 
--- where a turn leads
-turned : (c : tie.After-turn Inv-loop μ-loop)
+-- where a read leads
+turned : (c : tie.After-take-in Inv-loop μ-loop)
     → let k = c .before .before .before .before in
-    TookIn (k .before .before .before .args .x) (k .loop .read + c .turn .result .count) (c .turn .result .stream)
+    TookIn (k .before .before .before .args .x) (k .loop .read + c .take-in .result .read) (c .take-in .result .stream)
 turned c =
     let k = c .before .before .before .before in
-    took-more _ _ _ _ _ _ (k .loop .inv .2) (c .turn .ensures .0) (c .turn .ensures .1)
+    took-more _ _ _ _ _ _ (k .loop .inv .2) (c .take-in .ensures .within) (c .take-in .ensures .turn)
+
+slice-reshare-prefix-write-answers : tie.Need-slice-reshare-prefix-write-answers Inv-loop μ-loop
+slice-reshare-prefix-write-answers c = let h = c .before .before .before .before .before .take-in .ensures .within in omega arith
+
+slice-aggregate-write-answers : tie.Need-slice-aggregate-write-answers Inv-loop μ-loop
+slice-aggregate-write-answers c = let h = c .before .before .before .before .before .before .take-in .ensures .within in simp length-take (omega arith)
+
+slice-reshare-prefix-write-answers-2 : tie.Need-slice-reshare-prefix-write-answers-2 Inv-loop μ-loop
+slice-reshare-prefix-write-answers-2 c = let h = c .before .before .before .before .before .before .take-in .ensures .room in omega arith
+
+slice-aggregate-write-answers-2 : tie.Need-slice-aggregate-write-answers-2 Inv-loop μ-loop
+slice-aggregate-write-answers-2 c = let h = c .before .before .before .before .before .before .before .take-in .ensures .room in simp length-take (omega arith)
+
+write-answers-requires : tie.Need-write-answers-requires Inv-loop μ-loop
+write-answers-requires c κs = c .before .before .before .before .before .before .before .take-in .ensures .answers
+
+-- the read behind a write
+abbrev readOf : tie.After-write-answers Inv-loop μ-loop → tie.After-take-in Inv-loop μ-loop
+readOf c = c .before .before .before .before .before .before .before .before
 
 returns : tie.Need-returns Inv-loop μ-loop
-returns c = (turned (c .before .before .before .before .before .before), λ e w. absurd (true≢false e))
+returns c = (turned (readOf (c .before)), λ e w. absurd (true≢false e))
 
 returns-2 : tie.Need-returns-2 Inv-loop μ-loop
-returns-2 c = (turned (c .before .before .before .before .before .before .before), λ e w. absurd (not-both (c .if2 .taken) (ap not w)))
+returns-2 c = (turned (readOf (c .before .before)), λ e w. absurd (not-both (c .if2 .taken) (ap not w)))
 
 loop-again : tie.Need-loop-again Inv-loop μ-loop
-loop-again c = (search needs, search needs, turned (c .before .before .before .before .before .before .before))
+loop-again c = (search needs, search needs, turned (readOf (c .before .before)))
 
 returns-3 : tie.Need-returns-3 Inv-loop μ-loop
 returns-3 c = (c .before .loop .inv .2, λ e w. omega arith)
@@ -64,6 +83,11 @@ run-spec =
     loop-holds
     (λ c. search needs)
     (λ c κs. search needs)
+    slice-reshare-prefix-write-answers
+    slice-aggregate-write-answers
+    slice-reshare-prefix-write-answers-2
+    slice-aggregate-write-answers-2
+    write-answers-requires
     (λ c. search needs)
     (λ c. search needs)
     (λ c. search needs)

@@ -1,4 +1,4 @@
--- `session::turn` meets its contract.
+-- `session::take_in` meets its contract.
 -- Assumes nothing.
 use native.Mathlib.Omega.{arith}
 use mathlib.Core.List.{List}
@@ -9,8 +9,8 @@ use Rattle.stream.specs.declared.Stream.{Stream}
 use Rattle.stream.specs.Input.{outputWidth, answersTo, Taken}
 use Rattle.stream.proofs.Bytes.{over-within, over-first}
 use Rattle.stream.proofs.Pieces.{fed-taken}
-use Rattle.session.proofs.turn.Statement.{statement}
-use Rattle.session.proofs.turn.Tie as tie
+use Rattle.session.proofs.take_in.Statement.{statement}
+use Rattle.session.proofs.take_in.Tie as tie
 
 module _ (c : tie.After-feed) where
   abbrev counted : tie.After-count
@@ -39,25 +39,20 @@ module _ (c : tie.After-feed) where
   taken : Taken x piece before (c .feed .result) now
   taken = fed-taken x piece before (c .feed .result) now (c .feed .ensures) room
 
-  within : c .feed .result .count ≤ length now
-  within = over-within (answersTo x piece) before now (c .feed .result .count) (taken .written) (taken .count)
-
-slice-reshare-prefix-write-answers-2 : tie.Need-slice-reshare-prefix-write-answers-2
-slice-reshare-prefix-write-answers-2 c = let h = within (c .before .before .before .before) in omega arith
-
-slice-aggregate-write-answers-2 : tie.Need-slice-aggregate-write-answers-2
-slice-aggregate-write-answers-2 c = let h = within (c .before .before .before .before .before) in simp length-take (omega arith)
-
-write-answers-requires : tie.Need-write-answers-requires
-write-answers-requires c κs =
-    let f = c .before .before .before .before .before in
-    over-first (answersTo (x f) (piece f)) (before f) (now f) (f .feed .result .count) (taken f .written) (taken f .count)
-
 returns : tie.Need-returns
-returns c = (search needs, taken (c .before .before .before .before .before .before) .turn)
+returns c =
+    let f = c .before .before .before in
+    let t = taken f in
+    let answers = answersTo (x f) (piece f) in
+    record {
+      within = search needs;
+      turn = t .turn;
+      room = over-within answers (before f) (now f) (f .feed .result .count) (t .written) (t .count);
+      answers = over-first answers (before f) (now f) (f .feed .result .count) (t .written) (t .count);
+    }
 
-pub turn-spec : {M : Type 1} → statement M
-turn-spec =
+pub take-in-spec : {M : Type 1} → statement M
+take-in-spec =
     tie.close
     (tie.spec
     (λ c κs. search needs)
@@ -65,11 +60,6 @@ turn-spec =
     (λ c. search needs)
     (λ c. search needs)
     (λ c κs. search needs)
-    (λ c. search needs)
-    (λ c. search needs)
-    slice-reshare-prefix-write-answers-2
-    slice-aggregate-write-answers-2
-    write-answers-requires
     (λ c. search needs)
     (λ c. search needs)
     returns)
