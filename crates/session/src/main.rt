@@ -148,7 +148,7 @@ fn serve(piece: &mut [u8], out: &mut [u8]) -> Served
 const PIECE: usize = 4096;
 
 // An output line for each byte of a piece: each may be a line feed.
-const OUT: usize = PIECE * stream_code::OUTPUT_WIDTH;
+const OUT: usize = PIECE * stream_line_code::OUTPUT_WIDTH;
 
 fn main() {
     let mut piece = [0u8; PIECE];

@@ -1,3 +1,1 @@
 pub mod Feeding
-pub mod Feeds
-pub mod Kept

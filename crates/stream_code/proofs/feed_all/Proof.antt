@@ -12,17 +12,18 @@ use lib.ListN.{length, take, drop, length-set}
 use borrow.Author.Needs.{needs}
 use borrow.Author.Tests.{eqb-true, eqb-false, not-true, not-false}
 use Rattle.calls.specs.declared.Numbers.{Numbers}
+use Rattle.calls.specs.Answers.{numbersOf}
 use Rattle.table.specs.declared.Table.{Table}
 use Rattle.table.specs.Table.{places, onLine, placeIn, placeOf, trainAt, changed, Fits}
 use Rattle.table_code.specs.Search.{Ended}
 use Rattle.table_code.proofs.Places.{long, find-next, movedUp, moved-on, moved-all, moved-long}
-use Rattle.stream.specs.declared.Session.{Session}
+use Rattle.wire.specs.Format.{lineRead}
 use Rattle.stream.specs.Session.{session, lineDecision}
 use Rattle.stream.specs.Input.{outputLine, begun, keptWidth, outputWidth}
 use Rattle.stream.proofs.Bytes.{keep-first}
 use Rattle.stream.proofs.Lines.{standing, line-fits}
-use Rattle.stream_code.specs.Feeds.{idRead}
-use Rattle.stream_code.proofs.Feeding.{Feeding, line-room, line-fed, piece-fed}
+use Rattle.stream_line_code.specs.Named.{idRead}
+use Rattle.stream_code.proofs.Feeding.{lineFrom, Feeding, line-room, line-fed, piece-fed}
 use Rattle.stream_code.proofs.feed_all.Statement.{statement}
 use Rattle.stream_code.proofs.feed_all.Tie as tie
 
@@ -67,7 +68,7 @@ Decided = tie.After-decide-read Inv-loop2 μ-loop2 Inv-loop3 μ-loop3 Inv-loop �
 
 -- the line is answered, and only the table is still to be changed
 abbrev Answered : Type 0
-Answered = tie.After-either Inv-loop2 μ-loop2 Inv-loop3 μ-loop3 Inv-loop μ-loop
+Answered = tie.After-line-end2 Inv-loop2 μ-loop2 Inv-loop3 μ-loop3 Inv-loop μ-loop
 
 abbrev start : Turn → Start
 start k = k .before .before .before .before .before .before .before
@@ -81,11 +82,11 @@ inTurn m = readOn m .before .before .before
 abbrev searchOf : Decided → Search
 searchOf d = d .before .before .before .before .before .before
 
-abbrev putOf : Answered → tie.After-put-line Inv-loop2 μ-loop2 Inv-loop3 μ-loop3 Inv-loop μ-loop
-putOf e = e .before .before .before .before .before
+abbrev putOf : Answered → tie.After-put-answer Inv-loop2 μ-loop2 Inv-loop3 μ-loop3 Inv-loop μ-loop
+putOf e = e .before .before .before
 
 abbrev decidedIn : Answered → Decided
-decidedIn e = putOf e .before .before .before
+decidedIn e = putOf e .before .before
 
 abbrev turnOf : Decided → Turn
 turnOf d = inTurn (searchOf d) .before
@@ -176,28 +177,26 @@ countable d =
 
 -- the next line ends further on
 further : (e : Answered) → let k = turnOf (decidedIn e) in let piece = start k .args .piece .now in
-    length piece - e .before .before .line-end2 .result < length piece - k .loop .to
-further e = omega (arith, e .before .before .line-end2 .ensures .from, more (decidedIn e))
+    length piece - e .line-end2 .result < length piece - k .loop .to
+further e = omega (arith, e .line-end2 .ensures .from, more (decidedIn e))
 
 -- u is the table with the change
 changed-to : (e : Answered) (u : Table) → u ≡ changed (tableOf (decidedIn e)) (decidedIn e .decide-read .result .change) → length (u .trains) ≡ places
     → let k = turnOf (decidedIn e) in
     let a = start k .args in
     Feeding (a .piece .now) (a .out .now) (standing (session (a .x .session .opened) (a .x .session .table)) (take (k .before .before .kept-count .result) (a .x .bytes)) [] (a .piece .now))
-    (putOf e .put-line .last .0) (session (e .either .result) u) (readOn (searchOf (decidedIn e)) .read-on .last .0) 0 (k .loop .at + outputWidth) (k .loop .to + 1) (e .before .before .line-end2 .result)
+    (putOf e .put-answer .last .0) (session (putOf e .put-answer .result) u) (readOn (searchOf (decidedIn e)) .read-on .last .0) 0 (k .loop .at + outputWidth) (k .loop .to + 1) (e .line-end2 .result)
 changed-to e u made trains =
-    let p = putOf e in
-    let n = p .before .before in
+    let p = putOf e .put-answer in
     let d = decidedIn e in
     let k = turnOf d in
     let s = session (k .loop .opened) (k .loop .table) in
-    let r = readOn (searchOf d) in
-    let opens = e .either .ensures ∙ ap (λ (a : Numbers). k .loop .opened || eqb (a .number) 0) (n .numbers-of .ensures) in
+    let r = readOn (searchOf d) .read-on in
+    let read : r .result ≡ lineRead (lineFrom (k .loop .bytes) (k .loop .count) (start k .args .piece .now) (k .loop .from) (k .loop .to)) = r .ensures in
     line-fed _ _ _ _ _ _ _ _ _ _ (start k .pre) (k .loop .inv) (more d)
-    (d .decide-read .result) (d .decide-read .ensures ∙ ap (lineDecision s) (r .read-on .ensures))
-    _ (p .put-line .ensures ∙ ap (λ (a : Numbers). paste (k .loop .out) (k .loop .at) (outputLine a) outputWidth) (n .numbers-of .ensures))
-    _ (ap (λ (o : Bool). session o u) opens ∙ ap (session _) made) trains
-    _ (search needs) _ (e .before .before .line-end2 .ensures)
+    (d .decide-read .result) (d .decide-read .ensures ∙ ap (lineDecision s) read)
+    _ (p .ensures .0) _ (ap (λ (o : Bool). session o u) (p .ensures .1) ∙ ap (session _) made) trains
+    _ (search needs) _ (e .line-end2 .ensures)
 
 -- ---- the table is changed where it stands
 
@@ -310,12 +309,10 @@ feed-all-spec =
     (λ c. omega (arith, c .place-within .ensures))
     (λ c. omega (arith, c .place-within .ensures))
     decide-read-requires
-    (λ c κs. search needs)
-    (λ c κs. room (c .before .before))
-    (λ c. let n = countable (c .before .before .before .before .before) in omega arith)
-    (λ c. let n = countable (c .before .before .before .before .before) in omega arith)
-    (λ c κs. let m = more (c .before .before .before .before .before) in omega arith)
-    (λ c κs. search needs)
+    (λ c κs. room (c .before))
+    (λ c. let n = countable (c .before .before .before .before) in omega arith)
+    (λ c. let n = countable (c .before .before .before .before) in omega arith)
+    (λ c κs. let m = more (c .before .before .before .before) in omega arith)
     (λ c. search needs)
     (λ c. further (c .before .before))
     loop-again

@@ -1,13 +1,13 @@
--- `stream_code::line_end` meets its contract.
+-- `stream_line_code::line_end` meets its contract.
 -- Assumes nothing.
 use Prim.Native.Nat.{_-_, _≤_}
 use native.Mathlib.Omega.{arith}
 use lib.ListN.{length}
 use borrow.Author.Needs.{needs}
-use Rattle.stream_code.specs.Feeds.{NoFeed}
-use Rattle.stream_code.proofs.Feeds.{none-more}
-use Rattle.stream_code.proofs.line_end.Statement.{statement}
-use Rattle.stream_code.proofs.line_end.Tie as tie
+use Rattle.stream_line_code.specs.Feeds.{NoFeed}
+use Rattle.stream_line_code.proofs.Feeds.{none-more}
+use Rattle.stream_line_code.proofs.line_end.Statement.{statement}
+use Rattle.stream_line_code.proofs.line_end.Tie as tie
 
 abbrev Inv-loop : tie.InvT-loop
 Inv-loop piece from i₀ i = (from ≤ i) × (i ≤ length piece) × NoFeed piece from i

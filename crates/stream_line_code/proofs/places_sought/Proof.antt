@@ -1,11 +1,11 @@
--- `stream_code::places_sought` meets its contract.
+-- `stream_line_code::places_sought` meets its contract.
 -- Assumes nothing.
 use Prim.Native.Nat.{ℕ}
 use mathlib.Core.Path.{_≡_}
 use native.Mathlib.Omega.{arith}
 use borrow.Author.Needs.{needs}
-use Rattle.stream_code.proofs.places_sought.Statement.{statement}
-use Rattle.stream_code.proofs.places_sought.Tie as tie
+use Rattle.stream_line_code.proofs.places_sought.Statement.{statement}
+use Rattle.stream_line_code.proofs.places_sought.Tie as tie
 
 -- an unreadable line is none that was read
 returns-2 : tie.Need-returns-2

@@ -1,4 +1,4 @@
--- `stream_code::read_on` meets its contract.
+-- `stream_line_code::read_on` meets its contract.
 -- Assumes nothing.
 use Prim.Native.Nat.{ℕ, _≤_}
 use native.Mathlib.Omega.{arith}
@@ -9,8 +9,8 @@ use borrow.Author.Needs.{needs}
 use Rattle.wire.specs.Format.{lineRead}
 use Rattle.stream.specs.Input.{keptWidth}
 use Rattle.stream.proofs.Lines.{read-kept}
-use Rattle.stream_code.proofs.read_on.Statement.{statement}
-use Rattle.stream_code.proofs.read_on.Tie as tie
+use Rattle.stream_line_code.proofs.read_on.Statement.{statement}
+use Rattle.stream_line_code.proofs.read_on.Tie as tie
 
 returns : tie.Need-returns
 returns c =

@@ -1,12 +1,12 @@
--- `stream_code::past_blocks` meets its contract.
+-- `stream_line_code::past_blocks` meets its contract.
 -- Assumes nothing.
 use Prim.Native.Nat.{_+_, _-_, _≤_}
 use native.Mathlib.Omega.{arith}
 use lib.ListN.{length}
-use Rattle.stream_code.specs.Feeds.{NoFeed}
-use Rattle.stream_code.proofs.Feeds.{none-yet, none-joined}
-use Rattle.stream_code.proofs.past_blocks.Statement.{statement}
-use Rattle.stream_code.proofs.past_blocks.Tie as tie
+use Rattle.stream_line_code.specs.Feeds.{NoFeed}
+use Rattle.stream_line_code.proofs.Feeds.{none-yet, none-joined}
+use Rattle.stream_line_code.proofs.past_blocks.Statement.{statement}
+use Rattle.stream_line_code.proofs.past_blocks.Tie as tie
 
 abbrev Inv-loop : tie.InvT-loop
 Inv-loop piece from i₀ i = (from ≤ i) × (i ≤ length piece) × NoFeed piece from i

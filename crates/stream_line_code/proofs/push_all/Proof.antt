@@ -1,4 +1,4 @@
--- `stream_code::push_all` meets its contract.
+-- `stream_line_code::push_all` meets its contract.
 -- Assumes nothing.
 use Prim.Native.Nat.{ℕ, _-_, _≤_}
 use native.Mathlib.Omega.{arith}
@@ -9,9 +9,9 @@ use lib.Seq.{length-take-le}
 use borrow.Author.Needs.{needs}
 use borrow.Author.Tests.{ltb-false}
 use Rattle.stream.specs.Input.{keptWidth, kept}
-use Rattle.stream_code.proofs.Kept.{kept-first, kept-more, kept-full, kept-all}
-use Rattle.stream_code.proofs.push_all.Statement.{statement}
-use Rattle.stream_code.proofs.push_all.Tie as tie
+use Rattle.stream_line_code.proofs.Kept.{kept-first, kept-more, kept-full, kept-all}
+use Rattle.stream_line_code.proofs.push_all.Statement.{statement}
+use Rattle.stream_line_code.proofs.push_all.Tie as tie
 
 -- after i bytes of the part
 record Pushing (before : List ℕ) (count : ℕ) (part : List ℕ) (bytes : List ℕ) (n i : ℕ) : Type 0 where

@@ -1,11 +1,11 @@
--- `stream_code::push` meets its contract.
+-- `stream_line_code::push` meets its contract.
 -- Assumes nothing.
 use Prim.Native.Nat.{_+_}
 use native.Mathlib.Omega.{arith}
 use borrow.Author.Needs.{needs}
 use Rattle.stream.proofs.Bytes.{keep-more}
-use Rattle.stream_code.proofs.push.Statement.{statement}
-use Rattle.stream_code.proofs.push.Tie as tie
+use Rattle.stream_line_code.proofs.push.Statement.{statement}
+use Rattle.stream_line_code.proofs.push.Tie as tie
 
 returns : tie.Need-returns
 returns c = let a = c .before .args in (keep-more (a .bytes .now) (a .count) (a .count + 1) (a .b) (omega arith) (omega arith), omega arith)

@@ -11,7 +11,7 @@ use lib.ListN.{length, take, drop, getD}
 use lib.Seq.{drop-cons}
 use Rattle.stream.specs.declared.Session.{Session}
 use Rattle.stream.proofs.Lines.{standing, byte-taken}
-use Rattle.stream_code.specs.Feeds.{NoFeed, LineEnd}
+use Rattle.stream_line_code.specs.Feeds.{NoFeed, LineEnd}
 
 -- ---- bytes without a line feed
 

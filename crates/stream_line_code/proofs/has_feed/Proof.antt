@@ -1,14 +1,14 @@
--- `stream_code::has_feed` meets its contract.
+-- `stream_line_code::has_feed` meets its contract.
 -- Assumes nothing.
 use Prim.Native.Nat.{ℕ, _+_, _-_, _≤_}
 use native.Mathlib.Omega.{arith}
 use mathlib.Core.Path.{_≡_, sym, subst, _∙_}
 use mathlib.Core.Bool.{true, false, true≢false}
 use mathlib.Core.Logic.{⊎-elim}
-use Rattle.stream_code.specs.Feeds.{NoFeed}
-use Rattle.stream_code.proofs.Feeds.{none-more}
-use Rattle.stream_code.proofs.has_feed.Statement.{statement}
-use Rattle.stream_code.proofs.has_feed.Tie as tie
+use Rattle.stream_line_code.specs.Feeds.{NoFeed}
+use Rattle.stream_line_code.proofs.Feeds.{none-more}
+use Rattle.stream_line_code.proofs.has_feed.Statement.{statement}
+use Rattle.stream_line_code.proofs.has_feed.Tie as tie
 
 abbrev Inv-loop : tie.InvT-loop
 Inv-loop piece from any₀ i₀ any i = (i ≤ 16) × (any ≡ false → NoFeed piece from (from + i))

@@ -1,4 +1,4 @@
--- `stream_code::put_line` meets its contract.
+-- `stream_line_code::put_line` meets its contract.
 -- Assumes nothing.
 use Prim.Native.Nat.{_+_}
 use native.Mathlib.Omega.{arith}
@@ -7,8 +7,8 @@ use borrow.Author.Tests.{le-leb}
 use borrow.Author.Needs.{needs}
 use Rattle.wire.specs.Format.{answerWidth}
 use Rattle.stream.proofs.Bytes.{line-ended}
-use Rattle.stream_code.proofs.put_line.Statement.{statement}
-use Rattle.stream_code.proofs.put_line.Tie as tie
+use Rattle.stream_line_code.proofs.put_line.Statement.{statement}
+use Rattle.stream_line_code.proofs.put_line.Tie as tie
 
 returns : tie.Need-returns
 returns c =

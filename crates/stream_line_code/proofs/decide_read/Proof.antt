@@ -1,4 +1,4 @@
--- `stream_code::decide_read` meets its contract.
+-- `stream_line_code::decide_read` meets its contract.
 -- Assumes nothing.
 use Prim.Native.Nat.{ℕ}
 use mathlib.Core.Path.{_≡_, sym, ap, subst, _∙_}
@@ -6,8 +6,8 @@ use Rattle.table.specs.Table.{placeOf}
 use Rattle.table_code.specs.Search.{found, Ended}
 use Rattle.stream.specs.Session.{lineDecision}
 use borrow.Author.Needs.{needs}
-use Rattle.stream_code.proofs.decide_read.Statement.{statement}
-use Rattle.stream_code.proofs.decide_read.Tie as tie
+use Rattle.stream_line_code.proofs.decide_read.Statement.{statement}
+use Rattle.stream_line_code.proofs.decide_read.Tie as tie
 
 found-at-requires : tie.Need-found-at-requires
 found-at-requires c κs =
