@@ -1,36 +1,48 @@
 //! Inputs to measure the session program with: realistic runs, the worst figures
-//! of the ranges, and lines that work out no order.
+//! of the ranges, and generated lists. `kinds` has lines that work out little.
 
 use crate::brake::{LONGEST_FEET, STEPS_PER_FOOT};
-use crate::call::{Call, Entry, Settings};
-use crate::callers::usual;
+use crate::call::{Entry, Settings};
 use crate::convoy::Convoy;
-use crate::line::{GREATEST_CEILING, GREATEST_TRACTION, LONGEST_LINE, MOST_TRAINS};
+use crate::generate::{list, Kind};
+use crate::line::{GREATEST_CEILING, GREATEST_TRACTION, LONGEST_LINE};
 use crate::motion::{Motion, Order};
 use crate::scene::{Profile, Scene};
 use crate::train::Train;
-use crate::wire::{lines, put_message, MESSAGE_BYTES};
+use crate::wire::{lines, MESSAGE_BYTES};
 
 /// About half of the traction.
 const HALF: Order = Order::Drive(GREATEST_TRACTION / 2 + 1);
 /// The length and the settings of document 01's example, but the longest line.
-const FEET: u64 = 2345;
-const SETTINGS: Settings = Settings {
+pub(crate) const FEET: u64 = 2345;
+pub const SETTINGS: Settings = Settings {
     line_end: LONGEST_LINE,
     safety: 8_000_000_000,
     ceiling: 26_822_400,
     traction: 3726,
 };
-/// No train of a full line has this id.
-const UNKNOWN: u64 = MOST_TRAINS as u64 + 1;
-/// From head to head of its trains.
-const SPACING: u64 = LONGEST_LINE / UNKNOWN;
+/// Of the generated lists.
+const SEEDS: [u64; 2] = [1, 2];
 
 /// A lead-in, which is not measured, and the lines after it.
 pub struct Measured {
     pub lead: Vec<u8>,
     pub whole: Vec<u8>,
     pub lines: usize,
+}
+
+/// Makes an input of so many measured lines.
+pub type Maker = fn(usize) -> Measured;
+
+impl Measured {
+    /// All lines of an input.
+    fn all(whole: Vec<u8>) -> Measured {
+        Measured {
+            lead: Vec::new(),
+            lines: lines(&whole).count(),
+            whole,
+        }
+    }
 }
 
 /// Trains behind one another, as long and fast as in document 01's example.
@@ -47,11 +59,7 @@ pub fn realistic(trains: usize, count: usize) -> Measured {
     }
     let mut whole = scene.into_input();
     whole.truncate(count * (MESSAGE_BYTES + 1));
-    Measured {
-        lead: Vec::new(),
-        whole,
-        lines: count,
-    }
+    Measured::all(whole)
 }
 
 /// The longest train of class 3 reports high speed on a free line.
@@ -103,80 +111,17 @@ pub fn standing_bound(count: usize) -> Measured {
     })
 }
 
-/// Holds of all trains in turn, which are accepted.
-pub fn holds(count: usize) -> Measured {
-    measure_lines(&mut full_scene(), count, hold)
+/// Two generated lists of each kind, with their names.
+pub fn generated() -> Vec<(String, Measured)> {
+    let named = |kind, seed| {
+        let name = format!("{kind:?}, seed {seed}");
+        (name, Measured::all(list(seed, kind)))
+    };
+    let of_kind = |kind| SEEDS.map(|seed| named(kind, seed));
+    Kind::ALL.into_iter().flat_map(of_kind).collect()
 }
 
-/// Extensions of all trains in turn, each with a new number and accepted.
-pub fn extensions(count: usize) -> Measured {
-    measure_lines(&mut full_scene(), count, extend)
-}
-
-/// Extensions of all trains in turn, each a repeat.
-pub fn repeats(count: usize) -> Measured {
-    let mut scene = full_scene();
-    (0..MOST_TRAINS).for_each(|number| extend(&mut scene, number));
-    measure_lines(&mut scene, count, repeat)
-}
-
-/// Lines with a letter in the last column.
-pub fn unreadable_lines(count: usize) -> Measured {
-    measure_lines(&mut full_scene(), count, send_unreadable)
-}
-
-/// Enterings in good order, but the line is full: 6.
-pub fn refused_enterings(count: usize) -> Measured {
-    let entry = entry_at(UNKNOWN, SPACING / 2);
-    measure_lines(&mut full_scene(), count, |scene, _| scene.enter(entry))
-}
-
-/// A hold, a lift, a hold of an unknown train and an unreadable line, in turn.
-pub fn cheap_mixed(count: usize) -> Measured {
-    measure_lines(&mut full_scene(), count, |scene, number| {
-        let round = number / 4;
-        match number % 4 {
-            0 => hold(scene, round),
-            1 => lift(scene, round),
-            2 => scene.call(Call::Hold { id: UNKNOWN }),
-            _ => send_unreadable(scene, round),
-        }
-    })
-}
-
-fn in_turn(scene: &Scene, number: usize) -> Train {
-    scene.trains()[number % MOST_TRAINS]
-}
-
-fn hold(scene: &mut Scene, number: usize) {
-    let id = in_turn(scene, number).id;
-    scene.call(Call::Hold { id });
-}
-
-fn lift(scene: &mut Scene, number: usize) {
-    let id = in_turn(scene, number).id;
-    scene.call(Call::Lift { id });
-}
-
-fn extend(scene: &mut Scene, number: usize) {
-    let train = in_turn(scene, number);
-    scene.extend(&train, train.number + 1, 1);
-}
-
-fn repeat(scene: &mut Scene, number: usize) {
-    let train = in_turn(scene, number);
-    scene.extend(&train, train.number, 1);
-}
-
-fn send_unreadable(scene: &mut Scene, number: usize) {
-    let id = in_turn(scene, number).id;
-    let mut line = Vec::new();
-    put_message(usual(Call::Hold { id }), &mut line);
-    line[MESSAGE_BYTES - 1] = b'x';
-    scene.send(&line);
-}
-
-fn scene() -> Scene {
+pub(crate) fn scene() -> Scene {
     let profile = Profile {
         longest_feet: LONGEST_FEET,
         most_trains: 1,
@@ -184,26 +129,6 @@ fn scene() -> Scene {
         wrong_callers: false,
     };
     Scene::new(1, profile)
-}
-
-fn entry_at(id: u64, head: u64) -> Entry {
-    Entry {
-        id,
-        head,
-        feet: FEET,
-        class: 1,
-        start: 0,
-    }
-}
-
-/// As many trains as may be stand on the line, all with room ahead.
-fn full_scene() -> Scene {
-    let mut scene = scene();
-    scene.open(SETTINGS);
-    for id in (1..UNKNOWN).rev() {
-        scene.enter(entry_at(id, SPACING * id));
-    }
-    scene
 }
 
 /// The longest train of class 3 has just entered.
@@ -260,7 +185,11 @@ fn measure(scene: &mut Scene, count: usize, next: impl Fn(&Train) -> Option<Moti
 }
 
 /// So many lines after what the scene has, each sent by its number.
-fn measure_lines(scene: &mut Scene, count: usize, send: impl Fn(&mut Scene, usize)) -> Measured {
+pub(crate) fn measure_lines(
+    scene: &mut Scene,
+    count: usize,
+    send: impl Fn(&mut Scene, usize),
+) -> Measured {
     let lead = scene.input().to_vec();
     (0..count).for_each(|number| send(scene, number));
     let whole = scene.input().to_vec();

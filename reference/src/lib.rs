@@ -22,6 +22,7 @@ pub mod claim;
 pub mod compare;
 pub mod convoy;
 pub mod generate;
+pub mod kinds;
 pub mod levels;
 pub mod line;
 pub mod motion;
