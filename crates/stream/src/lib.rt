@@ -6,9 +6,6 @@ use table::Table;
 // The bytes that are kept of a line. One more than a call has: enough to tell that the line is too long.
 pub const KEPT_WIDTH: usize = wire::CALL_WIDTH + 1;
 
-// Room for them and for one byte more: a byte that is not kept is written there, so that no byte needs a test before it is stored.
-pub const ROOM: usize = KEPT_WIDTH + 1;
-
 // The state between lines: the table that an opening made, and whether one was accepted. Here and in `Fed` the table comes before the flag:
 // behind one, the compiler copies it once more for each piece of the input.
 pub struct Session {
@@ -25,7 +22,7 @@ pub struct Reply {
 // A session in the middle of its input: the first bytes of the line that has begun.
 pub struct Stream {
     pub session: Session,
-    pub bytes: [u8; ROOM],
+    pub bytes: [u8; KEPT_WIDTH],
     pub count: usize,
 }
 

@@ -29,7 +29,7 @@ pub record Feeding (piece before : List ℕ) (first : Standing) (out : List ℕ)
   pub end : LineEnd piece i e
   pub room : at ≤ outputWidth * i
   pub size : length out ≡ length before
-  pub line : length bytes ≡ keptWidth + 1
+  pub line : length bytes ≡ keptWidth
   pub bounded : count ≤ keptWidth
   pub trains : length (s .table .trains) ≡ places
   pub others : drop at out ≡ drop at before
@@ -47,7 +47,7 @@ module _ (piece before : List ℕ) (first : Standing) (out : List ℕ) (s : Sess
     -- it is answered, its output line is written, and z is the session after it
     pub line-fed : (d : Decision) → d ≡ lineDecision s (lineRead line) → (now : List ℕ) → now ≡ paste out at (outputLine (numbersOf (d .answer))) outputWidth
         → (z : Session) → z ≡ replied s d .session → length (z .table .trains) ≡ places
-        → (bytes₂ : List ℕ) → length bytes₂ ≡ keptWidth + 1 → (f : ℕ) → LineEnd piece (e + 1) f
+        → (bytes₂ : List ℕ) → length bytes₂ ≡ keptWidth → (f : ℕ) → LineEnd piece (e + 1) f
         → Feeding piece before first now z bytes₂ 0 (at + outputWidth) (e + 1) f
     line-fed d decided now written z after trains bytes₂ long f end =
         let a = numbersOf (d .answer) in

@@ -13,7 +13,7 @@ use calls::RequestRead;
 use line::Decision;
 use stream::Fed;
 use stream::Finished;
-use stream::ROOM;
+use stream::KEPT_WIDTH;
 use stream::Reply;
 use stream::Session;
 use stream::Stream;
@@ -64,7 +64,7 @@ pub fn start() -> Stream
             opened: false,
             table: line_decide_code::no_table(),
         },
-        bytes: [0u8; ROOM],
+        bytes: [0u8; KEPT_WIDTH],
         count: 0,
     }
 }

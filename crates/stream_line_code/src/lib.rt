@@ -2,7 +2,7 @@
 // line. Document 01, "The session program".
 ghost use mathlib.Core.Path.{_≡_};
 ghost use mathlib.Core.Bool.{false, _||_};
-ghost use mathlib.Core.List.{[], _∷_, _++_};
+ghost use mathlib.Core.List.{_++_};
 ghost use Prim.Native.Nat.{min, _+_, _≤_};
 ghost use lib.Dec.{eqb};
 ghost use lib.ListN.{length, take};
@@ -93,27 +93,16 @@ pub fn kept_count(n: usize) -> usize
     KEPT_WIDTH
 }
 
-// One byte more of a line.
-fn push(bytes: &mut [u8], count: usize, b: u8) -> usize
-    requires { ⌜ (length (now bytes) ≡ keptWidth + 1) × (count ≤ keptWidth) ⌝ }
-    ensures { λ r. ⌜ (take r (now (bytes .exit)) ≡ kept (take count (now (bytes .entry)) ++ (b ∷ []))) × (r ≤ keptWidth) ⌝ }
-{
-    bytes[count] = b;
-    if count < KEPT_WIDTH {
-        return count + 1;
-    }
-    count
-}
-
 // More bytes of a line, as far as they are kept.
 pub fn push_all(bytes: &mut [u8], count: usize, part: &[u8]) -> usize
-    requires { ⌜ (length (now bytes) ≡ keptWidth + 1) × (count ≤ keptWidth) ⌝ }
+    requires { ⌜ (length (now bytes) ≡ keptWidth) × (count ≤ keptWidth) ⌝ }
     ensures { λ r. ⌜ (take r (now (bytes .exit)) ≡ kept (take count (now (bytes .entry)) ++ now (part .entry))) × (r ≤ keptWidth) ⌝ }
 {
     let mut n = count;
     let mut i: usize = 0;
     while i < part.len() && n < KEPT_WIDTH {
-        n = push(bytes, n, part[i]);
+        bytes[n] = part[i];
+        n += 1;
         i += 1;
     }
     n
@@ -122,7 +111,7 @@ pub fn push_all(bytes: &mut [u8], count: usize, part: &[u8]) -> usize
 // What a line asks, given its bytes in this piece. A line that lies whole in its piece is read there; the rest of a line that has begun
 // before is put to its first bytes.
 pub fn read_on(bytes: &mut [u8], count: usize, part: &[u8]) -> RequestRead
-    requires { ⌜ (length (now bytes) ≡ keptWidth + 1) × (count ≤ keptWidth) ⌝ }
+    requires { ⌜ (length (now bytes) ≡ keptWidth) × (count ≤ keptWidth) ⌝ }
     ensures { λ r. ⌜ r ≡ lineRead (take count (now (bytes .entry)) ++ now (part .entry)) ⌝ }
 {
     if count == 0 {

@@ -1,14 +1,14 @@
 -- `stream_line_code::push_all` meets its contract.
 -- Assumes nothing.
-use Prim.Native.Nat.{ℕ, _-_, _≤_}
+use Prim.Native.Nat.{ℕ, _+_, _-_, _≤_, _<_}
 use native.Mathlib.Omega.{arith}
 use mathlib.Core.Path.{_≡_, refl, _∙_}
 use mathlib.Core.List.{List, _++_}
-use lib.ListN.{length, take}
+use lib.ListN.{length, take, getD, length-set}
 use lib.Seq.{length-take-le}
-use borrow.Author.Needs.{needs}
-use borrow.Author.Tests.{ltb-false}
+use borrow.Author.Tests.{ltb-true, ltb-false}
 use Rattle.stream.specs.Input.{keptWidth, kept}
+use Rattle.stream.proofs.Bytes.{keep-more}
 use Rattle.stream_line_code.proofs.Kept.{kept-first, kept-more, kept-full, kept-all}
 use Rattle.stream_line_code.proofs.push_all.Statement.{statement}
 use Rattle.stream_line_code.proofs.push_all.Tie as tie
@@ -28,41 +28,36 @@ abbrev μ-loop : tie.MeasureT-loop
 
 loop-holds : tie.Need-loop-holds Inv-loop μ-loop
 loop-holds c =
-    let s = c .before .before in
-    let a = s .args in
-    record { within = omega arith; size = refl; bounded = s .pre .1; holds = kept-first (a .bytes .now) (a .count) (a .part .now) (s .pre .1) }
+    let a = c .args in
+    record { within = omega arith; size = refl; bounded = c .pre .1; holds = kept-first (a .bytes .now) (a .count) (a .part .now) (c .pre .1) }
 
-shared-slice-read-push : tie.Need-shared-slice-read-push Inv-loop μ-loop
-shared-slice-read-push c = omega arith
-
-push-requires : tie.Need-push-requires Inv-loop μ-loop
-push-requires c κs =
-    let k = c .before .before .before .before in
-    (k .loop .inv .size ∙ k .before .before .before .pre .0, k .loop .inv .bounded)
-
-add-i : tie.Need-add-i Inv-loop μ-loop
-add-i c = omega arith
-
-loop-less : tie.Need-loop-less Inv-loop μ-loop
-loop-less c = omega arith
+-- there is a place for one byte more
+spare : (c : tie.After-shared-slice-known Inv-loop μ-loop) → let k = c .before .before .before in
+    (k .loop .n < keptWidth) × (k .loop .n < length (k .loop .bytes))
+spare c =
+    let k = c .before .before .before in
+    let few : k .loop .n < keptWidth = omega (arith, ltb-true) in
+    (few, omega (arith, few, k .loop .inv .size, k .before .pre .0))
 
 loop-again : tie.Need-loop-again Inv-loop μ-loop
 loop-again c =
-    let p = c .before .before in
-    let k = p .before .before .before .before .before in
-    let a = k .before .before .before .args in
+    let k = c .before .before .before in
+    let a = k .before .args in
+    let v = k .loop .inv in
+    let n = k .loop .n in
+    let b = getD (a .part .now) (k .loop .i) 0 in
     record {
       within = omega arith;
-      size = search needs;
-      bounded = p .push .ensures .1;
-      holds = kept-more (take (a .count) (a .bytes .now)) (a .part .now) (k .loop .i) _ (k .loop .inv .holds) (omega arith) _ (p .push .ensures .0);
+      size = length-set (k .loop .bytes) n b ∙ v .size;
+      bounded = omega (arith, spare c .0);
+      holds = kept-more (take (a .count) (a .bytes .now)) (a .part .now) (k .loop .i) _ (v .holds) (omega arith) _ (keep-more (k .loop .bytes) n (n + 1) b (spare c .1) (omega (arith, spare c .0)));
     }
 
 -- no more are kept
 returns : tie.Need-returns Inv-loop μ-loop
 returns c =
     let k = c .before .before in
-    let s = k .before .before .before in
+    let s = k .before in
     let a = s .args in
     let v = k .loop .inv in
     let full : k .loop .n ≡ keptWidth = omega (arith, ltb-false, v .bounded) in
@@ -73,7 +68,7 @@ returns c =
 returns-2 : tie.Need-returns-2 Inv-loop μ-loop
 returns-2 c =
     let k = c .before in
-    let a = k .before .before .before .args in
+    let a = k .before .args in
     (kept-all (take (a .count) (a .bytes .now)) (a .part .now) (k .loop .i) _ (k .loop .inv .holds) (omega arith), k .loop .inv .bounded)
 
 pub push-all-spec : {M : Type 1} → statement M
@@ -83,10 +78,11 @@ push-all-spec =
     Inv-loop
     μ-loop
     loop-holds
-    shared-slice-read-push
-    push-requires
-    add-i
-    loop-less
+    (λ c. omega arith)
+    (λ c. omega (arith, spare c .1))
+    (λ c. omega (arith, spare c .0))
+    (λ c. omega arith)
+    (λ c. omega arith)
     loop-again
     (λ c. c .before .before .loop .inv .size)
     returns
