@@ -1,7 +1,7 @@
 -- Laws of a piece that is taken line by line, from place to place of the loop in `feed_all`. Assumes nothing.
 use Prim.Native.Nat.{ℕ, _+_, _-_, _*_, _≤_, _<_}
 use native.Mathlib.Omega.{arith}
-use mathlib.Core.Path.{_≡_, refl, sym, ap, _∙_}
+use mathlib.Core.Path.{_≡_, sym, ap, _∙_}
 use mathlib.Core.Bool.{true}
 use mathlib.Core.List.{List, [], _++_}
 use lib.ListN.{length, take, drop}
@@ -14,7 +14,7 @@ use Rattle.stream.specs.declared.Session.{Session}
 use Rattle.stream.specs.declared.Stream.{Stream}
 use Rattle.stream.specs.Session.{lineDecision, replied}
 use Rattle.stream.specs.Input.{outputLine, begun, keptWidth, kept, outputWidth, Taken}
-use Rattle.stream.proofs.Bytes.{keep-first, output-all, output-front, output-back, same-further}
+use Rattle.stream.proofs.Bytes.{output-all, output-front, output-back, same-further}
 use Rattle.stream.proofs.Lines.{Standing, standing, standing-kept, standing-end, line-taken, piece-taken}
 use Rattle.stream_line_code.specs.Feeds.{LineEnd}
 use Rattle.stream_line_code.proofs.Feeds.{part-taken}

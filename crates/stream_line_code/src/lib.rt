@@ -136,7 +136,7 @@ pub fn id_read(q: RequestRead) -> u64
     }
 }
 
-// How many places are searched for it, where n trains are on the line.
+// How many places are searched for it, where n trains are on the line: none for a line that is not readable.
 pub fn places_sought(q: RequestRead, n: usize) -> usize
     ensures { λ r. ⌜ (r ≤ min n places) × ((x : Request) → q ≡ RequestRead.Read x → r ≡ min n places) ⌝ }
 {

@@ -1,25 +1,21 @@
 -- `stream_code::feed_all` meets its contract. What a turn of its loop does is a law in Feeding; the search and the moving up are laws of
 -- table_code's Places. Here each fact of them is found in the code. Assumes nothing.
-use Prim.Native.Nat.{ℕ, min, _+_, _-_, _*_, _^_, _≤_, _<_}
+use Prim.Native.Nat.{ℕ, min, _+_, _-_, _^_, _≤_, _<_}
 use native.Mathlib.Omega.{arith}
 use mathlib.Core.Path.{_≡_, refl, sym, ap, subst, _∙_}
-use mathlib.Core.Bool.{Bool, _||_}
+use mathlib.Core.Bool.{Bool}
 use mathlib.Core.Logic.{⊎-elim}
-use lib.Dec.{eqb}
-use lib.Seq.{paste}
 use mathlib.Core.List.{List, []}
 use lib.ListN.{length, take, drop, length-set}
 use borrow.Author.Needs.{needs}
 use borrow.Author.Tests.{eqb-true, eqb-false, not-true, not-false}
-use Rattle.calls.specs.declared.Numbers.{Numbers}
-use Rattle.calls.specs.Answers.{numbersOf}
 use Rattle.table.specs.declared.Table.{Table}
 use Rattle.table.specs.Table.{places, onLine, placeIn, placeOf, trainAt, changed, Fits}
 use Rattle.table_code.specs.Search.{Ended}
 use Rattle.table_code.proofs.Places.{long, find-next, movedUp, moved-on, moved-all, moved-long}
 use Rattle.wire.specs.Format.{lineRead}
 use Rattle.stream.specs.Session.{session, lineDecision}
-use Rattle.stream.specs.Input.{outputLine, begun, keptWidth, outputWidth}
+use Rattle.stream.specs.Input.{outputWidth}
 use Rattle.stream.proofs.Bytes.{keep-first}
 use Rattle.stream.proofs.Lines.{standing, line-fits}
 use Rattle.stream_line_code.specs.Named.{idRead}

@@ -1,7 +1,7 @@
 -- `stream_line_code::decide_read` meets its contract.
 -- Assumes nothing.
 use Prim.Native.Nat.{ℕ}
-use mathlib.Core.Path.{_≡_, sym, ap, subst, _∙_}
+use mathlib.Core.Path.{sym, ap, subst, _∙_}
 use Rattle.table.specs.Table.{placeOf}
 use Rattle.table_code.specs.Search.{found, Ended}
 use Rattle.stream.specs.Session.{lineDecision}

@@ -1,10 +1,9 @@
 -- `table_code::found_at` meets its contract.
 -- Assumes nothing.
 use Prim.Native.Nat.{min, _<_, _≤_}
-use mathlib.Core.Path.{_≡_, sym, ap, _∙_}
+use mathlib.Core.Path.{_≡_, sym, ap}
 use native.Mathlib.Omega.{arith}
 use lib.ListN.{length}
-use Rattle.table.specs.Table.{limitAt}
 use Rattle.table_code.specs.Search.{found}
 use Rattle.table_code.proofs.Places.{long, ended-here, ended-behind}
 use borrow.Author.Needs.{needs}
