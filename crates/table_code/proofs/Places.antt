@@ -60,6 +60,18 @@ ahead-behind t (suc i) h = let e : suc i - 1 ≡ i = omega arith in rw e
 
 -- ---- a search that has ended
 
+-- it has, where the train at place i has the id or there is none; j and k are the places of which the records are taken
+pub search-ended : (t : Table) (id i j k : ℕ) → i ≤ min (t .count) 32 → placeOf t id ≡ placeIn (drop i (onLine t)) id i
+    → (i < min (t .count) 32 → trainAt t i .id ≡ id) → j ≡ i - 1 → k ≡ min i 31 → Ended t id i (trainAt t j) (trainAt t k)
+search-ended t id i j k within before here ahead there =
+    record {
+      within = within;
+      before = before;
+      here = here;
+      ahead = λ h. ap (trainAt t) ahead;
+      there = λ h. let same : k ≡ i = omega arith in ap (trainAt t) same;
+    }
+
 module _ (t : Table) (id i : ℕ) (a x : Train) (size : length (t .trains) ≡ 32) (e : Ended t id i a x) where
   -- at a train on the line: it is the one that was sought
   pub ended-here : i < min (t .count) 32 → placeOf t id ≡ some i

@@ -12,7 +12,7 @@ use borrow.Author.Tests.{eqb-true, eqb-false, not-true, not-false}
 use Rattle.table.specs.declared.Table.{Table}
 use Rattle.table.specs.Table.{places, onLine, placeIn, placeOf, trainAt, changed, Fits}
 use Rattle.table_code.specs.Search.{Ended}
-use Rattle.table_code.proofs.Places.{long, find-next, movedUp, moved-on, moved-all, moved-long}
+use Rattle.table_code.proofs.Places.{long, find-next, search-ended, movedUp, moved-on, moved-all, moved-long}
 use Rattle.wire.specs.Format.{lineRead}
 use Rattle.stream.specs.Session.{session, lineDecision}
 use Rattle.stream.specs.Input.{outputWidth}
@@ -137,13 +137,9 @@ decide-read-requires c κs x read =
     let all = m .before .places-sought .ensures .1 x read in
     let id = named .id-read .ensures ∙ ap idRead read in
     subst (λ (n : ℕ). Ended t n (m .loop2 .i) (trainAt t (p .place-ahead .result)) (trainAt t (w .place-within .result))) id
-    (record {
-      within = within end;
-      before = m .loop2 .inv .1;
-      here = λ h. ⊎-elim (λ v. eqb-true _ _ (not-false _ (v .1 .left))) (λ v. absurd (omega (arith, v .left, all, h))) (end .loop2-test .came);
-      ahead = λ h. ap (trainAt t) (p .place-ahead .ensures);
-      there = λ h. let same : w .place-within .result ≡ m .loop2 .i = omega (arith, w .place-within .ensures, h) in ap (trainAt t) same;
-    })
+    (search-ended t _ (m .loop2 .i) (p .place-ahead .result) (w .place-within .result) (within end) (m .loop2 .inv .1)
+    (λ h. ⊎-elim (λ v. eqb-true _ _ (not-false _ (v .1 .left))) (λ v. absurd (omega (arith, v .left, all, h))) (end .loop2-test .came))
+    (p .place-ahead .ensures) (w .place-within .ensures))
 
 -- ---- the line is answered: what every arm of the match stands on
 

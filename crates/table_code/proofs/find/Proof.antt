@@ -2,12 +2,12 @@
 -- Assumes nothing.
 use Prim.Native.Nat.{min, _-_, _≤_}
 use mathlib.Core.Logic.{⊎-elim}
-use mathlib.Core.Path.{_≡_, refl, ap, _∙_}
+use mathlib.Core.Path.{_≡_, refl, _∙_}
 use native.Mathlib.Omega.{arith}
 use lib.ListN.{drop, length}
 use borrow.Author.Tests.{eqb-true, eqb-false, not-true, not-false}
-use Rattle.table.specs.Table.{onLine, placeIn, placeOf, trainAt}
-use Rattle.table_code.proofs.Places.{long, find-next}
+use Rattle.table.specs.Table.{onLine, placeIn, placeOf}
+use Rattle.table_code.proofs.Places.{long, find-next, search-ended}
 use borrow.Author.Needs.{needs}
 use Rattle.table_code.proofs.find.Statement.{statement}
 use Rattle.table_code.proofs.find.Tie as tie
@@ -64,14 +64,9 @@ found-at-requires c κs =
     let p = w .before .before in
     let end = p .before in
     let k = end .before in
-    let t = k .before .before .args .t1 in
-    record {
-      within = within end;
-      before = k .loop .inv .1;
-      here = λ h. ⊎-elim (λ v. eqb-true _ _ (not-false _ (v .1 .left))) (λ v. absurd (omega (arith, v .left, k .before .places-taken .ensures, h))) (end .loop-test .came);
-      ahead = λ h. ap (trainAt t) (p .place-ahead .ensures);
-      there = λ h. let same : w .place-within .result ≡ k .loop .i = omega (arith, w .place-within .ensures, h) in ap (trainAt t) same;
-    }
+    search-ended (k .before .before .args .t1) (k .before .before .args .id) (k .loop .i) (p .place-ahead .result) (w .place-within .result) (within end) (k .loop .inv .1)
+    (λ h. ⊎-elim (λ v. eqb-true _ _ (not-false _ (v .1 .left))) (λ v. absurd (omega (arith, v .left, k .before .places-taken .ensures, h))) (end .loop-test .came))
+    (p .place-ahead .ensures) (w .place-within .ensures)
 
 pub find-spec : {M : Type 1} → statement M
 find-spec =
