@@ -9,13 +9,6 @@ use Rattle.stream.specs.declared.Stream.{Stream}
 use Rattle.stream.specs.Session.{closed}
 use Rattle.stream.specs.Input.{lines, after, output, begun, answersTo, Turn, Turns}
 
--- One read: it takes the stream x to the stream y, and the answers to the lines that it ends stand at the front of out.
-pub record ReadOnce (x : Stream) (read answered : ℕ) (y : Stream) (piece out : List ℕ) : Type 0 where
-  pub within : read ≤ length piece
-  pub turn : Turn x (take read piece) y
-  pub room : answered ≤ length out
-  pub answers : take answered out ≡ answersTo x (take read piece)
-
 -- Turns took in as many bytes as were read, and led from the stream x to the stream y.
 pub record TookIn (x : Stream) (read : ℕ) (y : Stream) : Type 0 where
   pub input : List ℕ
@@ -37,3 +30,12 @@ pub record Whole (read : ℕ) (ended : Bool) (last : List ℕ) : Type 0 where
   pub took : TookIn x read y
   pub state : y .session ≡ after closed (lines [] (took .input))
   pub all : ended ≡ true → took .answered ++ last ≡ output (took .input)
+
+-- ---- words of inner contracts
+
+-- One read: it takes the stream x to the stream y, and the answers to the lines that it ends stand at the front of out.
+pub record ReadOnce (x : Stream) (read answered : ℕ) (y : Stream) (piece out : List ℕ) : Type 0 where
+  pub within : read ≤ length piece
+  pub turn : Turn x (take read piece) y
+  pub room : answered ≤ length out
+  pub answers : take answered out ≡ answersTo x (take read piece)

@@ -157,7 +157,7 @@ fits d =
     let k = turnOf d in
     line-fits (session (k .loop .opened) (k .loop .table)) (k .loop .inv .trains) _ (d .decide-read .result) (d .decide-read .ensures)
 
--- so that both places can be counted on
+-- and the places after it, in out and in the piece, fit 64 bits
 long-out : (c : tie.After-slice-known Inv-loop2 μ-loop2 Inv-loop3 μ-loop3 Inv-loop μ-loop) → length (c .before .before .args .out .now) < 2 ^ 64
 long-out c = omega arith
 
