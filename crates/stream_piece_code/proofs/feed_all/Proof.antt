@@ -1,4 +1,4 @@
--- `stream_code::feed_all` meets its contract. What a turn of its loop does is a law in Feeding; the search and the moving up are laws of
+-- `stream_piece_code::feed_all` meets its contract. What a turn of its loop does is a law in Feeding; the search and the moving up are laws of
 -- table_code's Places. Here each fact of them is found in the code. Assumes nothing.
 use Prim.Native.Nat.{ℕ, min, _+_, _-_, _^_, _≤_, _<_}
 use native.Mathlib.Omega.{arith}
@@ -19,9 +19,9 @@ use Rattle.stream.specs.Input.{outputWidth}
 use Rattle.stream.proofs.Bytes.{keep-first}
 use Rattle.stream.proofs.Lines.{standing, line-fits}
 use Rattle.stream_line_code.specs.Named.{idRead}
-use Rattle.stream_code.proofs.Feeding.{lineFrom, Feeding, line-room, line-fed, piece-fed}
-use Rattle.stream_code.proofs.feed_all.Statement.{statement}
-use Rattle.stream_code.proofs.feed_all.Tie as tie
+use Rattle.stream_piece_code.proofs.Feeding.{lineFrom, Feeding, line-room, line-fed, piece-fed}
+use Rattle.stream_piece_code.proofs.feed_all.Statement.{statement}
+use Rattle.stream_piece_code.proofs.feed_all.Tie as tie
 
 -- the loop over lines
 abbrev Inv-loop : tie.InvT-loop
