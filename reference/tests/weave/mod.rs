@@ -3,6 +3,11 @@
 //! copy of the sources: a function that edits change has a body for each of
 //! them, and a number chooses. So the sources have none, and all are one build.
 
+mod edit;
+
+pub use edit::{edits, Edit};
+
+use edit::Sources;
 use std::collections::BTreeMap;
 use std::fs;
 use std::path::{Path, PathBuf};
@@ -27,30 +32,6 @@ pub fn number() -> usize {
 }
 "#;
 
-/// Each source file by its path.
-type Sources = BTreeMap<PathBuf, String>;
-
-pub struct Edit {
-    /// Counted from 1.
-    pub number: usize,
-    pub label: String,
-    pub text: String,
-}
-
-pub fn edits() -> Vec<Edit> {
-    let folder = fs::read_dir(Path::new(ROOT).join("wrong")).expect("the edits");
-    let mut files: Vec<PathBuf> = folder.map(|file| file.expect("a file").path()).collect();
-    files.sort();
-    (1..)
-        .zip(files)
-        .map(|(number, file)| Edit {
-            number,
-            label: file.file_stem().expect("a name").to_string_lossy().into(),
-            text: fs::read_to_string(file).expect("text"),
-        })
-        .collect()
-}
-
 fn sources() -> Sources {
     let mut sources = Sources::new();
     for part in ["src", "src/bin"] {
@@ -63,29 +44,6 @@ fn sources() -> Sources {
         }
     }
     sources
-}
-
-impl Edit {
-    /// Replaces what the edit says. A `file:` line holds for the pairs of
-    /// `old:` and `new:` after it; other lines are passed over.
-    fn apply(&self, sources: &mut Sources) -> Result<(), String> {
-        let (mut file, mut old) = (Path::new(""), "");
-        for line in self.text.lines() {
-            if let Some(name) = line.strip_prefix("file: ") {
-                file = Path::new(name);
-            } else if let Some(text) = line.strip_prefix("old: ") {
-                old = text;
-            } else if let Some(new) = line.strip_prefix("new:") {
-                let text = sources.get_mut(file).ok_or("no such file")?;
-                let times = text.matches(old).count();
-                if old.is_empty() || times != 1 {
-                    return Err(format!("{old:?} is {times} times in {}", file.display()));
-                }
-                *text = text.replace(old, new.strip_prefix(' ').unwrap_or(new));
-            }
-        }
-        Ok(())
-    }
 }
 
 /// A text in the formatter's layout, cut at the bodies of its functions: what
