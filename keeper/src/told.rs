@@ -46,7 +46,7 @@ impl Told {
     }
 
     /// No train is on the line any more: its table is then the one that the
-    /// opening made (crates/stream/proofs/Anew).
+    /// opening made (crates/stream/proofs/Emptied).
     pub fn is_as_opened(&self) -> bool {
         self.had_a_train && self.trains.is_empty()
     }

@@ -33,6 +33,7 @@ use Rattle.table.specs.declared.Change.the-variants.{Put, Add, DropFirst}
 use Rattle.table.specs.Table.{places, placeOf, trainAt, changed}
 use Rattle.table.proofs.Places.{found-below, still-found, still-there}
 use Rattle.table.proofs.Trains.{Sized, sized-with, sized-last, sized-without-first}
+use Rattle.table.proofs.Spare.{Tidy, tidy-with, tidy-last, tidy-without-first}
 use Rattle.table.proofs.Sentences.{FirstWith, found-exactly, put-leaves, add-leaves, drop-leaves}
 use Rattle.line.specs.declared.Decision.{Decision}
 use Rattle.line.specs.Decide.{refused, rulingAt}
@@ -56,18 +57,41 @@ pub sized-request : (t : Table) → Sized t → (r : Request) → Sized (request
 unfolding step
 sized-request t sized = any-request t (λ r d. Sized (changed t (d .change))) (λ r why. sized) (λ r c asks. sized-step t sized c)
 
--- ---- the numbers that were opened stay
+-- ---- and those behind the last train are blank
 
-pub works-step : (o : Opening) (t : Table) → WorksWith o (t .settings) → (c : Call) → WorksWith o (step t c .table .settings)
+tidy-step : (t : Table) → Tidy t → (c : Call) → Tidy (step t c .table)
 unfolding step
-works-step o t works =
-    any-call t (λ c d. WorksWith o (changed t (d .change) .settings))
-    (record { refuses = λ c r. works; enters = λ e k a. works; acts = λ j p a f q. works; leaves = λ j p f may. works })
+tidy-step t tidy =
+    any-call t (λ c d. Tidy (changed t (d .change)))
+    (record {
+      refuses = λ c r. tidy;
+      enters = λ e k a. tidy-last t (entering e k) tidy (a .room);
+      acts = λ j p a f q. tidy-with t p _ tidy (found-below t j p f);
+      leaves = λ j p f may. let below = found-below t j p f in tidy-without-first t tidy (omega arith);
+    })
+
+pub tidy-request : (t : Table) → Tidy t → (r : Request) → Tidy (requested true t r .table)
+unfolding step
+tidy-request t tidy = any-request t (λ r d. Tidy (changed t (d .change))) (λ r why. tidy) (λ r c asks. tidy-step t tidy c)
+
+-- ---- the settings stay
+
+settings-step : (t : Table) (c : Call) → step t c .table .settings ≡ t .settings
+unfolding step
+settings-step t =
+    any-call t (λ c d. changed t (d .change) .settings ≡ t .settings)
+    (record { refuses = λ c r. refl; enters = λ e k a. refl; acts = λ j p a f q. refl; leaves = λ j p f may. refl })
+
+pub settings-request : (t : Table) (r : Request) → requested true t r .table .settings ≡ t .settings
+unfolding step
+settings-request t = any-request t (λ r d. changed t (d .change) .settings ≡ t .settings) (λ r why. refl) (λ r c asks. settings-step t c)
+
+-- and with them the numbers that were opened
+pub works-step : (o : Opening) (t : Table) → WorksWith o (t .settings) → (c : Call) → WorksWith o (step t c .table .settings)
+works-step o t works c = subst (WorksWith o) (sym (settings-step t c)) works
 
 pub works-request : (o : Opening) (t : Table) → WorksWith o (t .settings) → (r : Request) → WorksWith o (requested true t r .table .settings)
-unfolding step
-works-request o t works =
-    any-request t (λ r d. WorksWith o (changed t (d .change) .settings)) (λ r why. works) (λ r c asks. works-step o t works c)
+works-request o t works r = subst (WorksWith o) (sym (settings-request t r)) works
 
 -- ---- an accepted act
 

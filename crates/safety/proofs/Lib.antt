@@ -9,5 +9,6 @@ pub mod Plain
 pub mod Bounds
 pub mod Demand2
 pub mod Repeats
+pub mod Emptied
 pub mod Refuted
 pub mod Worked

@@ -3,4 +3,5 @@ pub mod Fitting
 pub mod Lines
 pub mod Pieces
 pub mod Safe
+pub mod Emptied
 pub mod Sentences

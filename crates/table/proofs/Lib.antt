@@ -1,3 +1,4 @@
 pub mod Places
 pub mod Trains
+pub mod Spare
 pub mod Sentences

@@ -46,7 +46,7 @@ sized-last t x z h = record { size = length-set (t .trains) (t .count) x ∙ z .
 -- ---- the first gone
 
 module _ (t : Table) (z : Sized t) where
-  moved : length (drop 1 (onLine t)) ≡ t .count - 1
+  pub moved : length (drop 1 (onLine t)) ≡ t .count - 1
   moved = let line = line-length t z in let dropped = length-drop 1 (onLine t) in omega arith
 
   pub line-without-first : onLine (changed t DropFirst) ≡ drop 1 (onLine t)
