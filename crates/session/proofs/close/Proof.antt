@@ -25,7 +25,7 @@ module _ (c : tie.After-finish) where
 
   -- there is room: the last answer is written
   taken : (now ≡ over (lastAnswer (begun x)) before) × (c .finish .result .count ≡ length (lastAnswer (begun x)))
-  taken = last-taken x before (c .finish .result) now (c .finish .ensures) (c .before .before .before .pre)
+  taken = last-taken x before (c .finish .result) now (c .finish .ensures) (c .before .before .before .pre .1)
 
   within : c .finish .result .count ≤ length now
   within = over-within (lastAnswer (begun x)) before now (c .finish .result .count) (taken .0) (taken .1)
@@ -42,7 +42,7 @@ slice-aggregate-write-last c =
     sym (length-take-le (f .finish .result .count) (now f) (within f))
 
 write-last-requires : tie.Need-write-last-requires
-write-last-requires c κs = first (c .before .before .before)
+write-last-requires c κs = (c .before .before .before .before .before .before .pre .0, first (c .before .before .before))
 
 returns : tie.Need-returns
 returns c = first (c .before .before .before .before)

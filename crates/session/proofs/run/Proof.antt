@@ -1,18 +1,19 @@
 -- `session::run` meets its contract. The loop's invariant: the turns so far took in the bytes that are counted. The measure is how many
 -- more may be counted. Assumes nothing.
 use native.Mathlib.Omega.{arith}
-use mathlib.Core.Path.{_≡_, refl, ap}
-use mathlib.Core.Bool.{not, true≢false}
+use mathlib.Core.Path.{_≡_, refl, sym, ap, _∙_}
+use mathlib.Core.Bool.{Bool, true, false}
 use mathlib.Core.List.{List, []}
-use Prim.Native.Nat.{ℕ, _+_, _-_, _≤_}
+use Prim.Native.Nat.{ℕ, zero, suc, _+_, _-_, _≤_, _<_}
 use lib.ListN.{length, take, length-append, length-take}
 use lib.Seq.{length-take-le}
 use borrow.Author.Needs.{needs}
-use Rattle.logic.proofs.Tests.{not-both}
 use Rattle.stream.specs.declared.Stream.{Stream}
 use Rattle.stream.specs.Input.{Turn}
 use Rattle.stream.specs.Input.Turns.{no-turns, more}
-use Rattle.session.specs.Program.{TookIn}
+use Rattle.session.specs.declared.Stop.the-variants.{Full}
+use Rattle.session.specs.declared.Next.the-variants.{More, Done}
+use Rattle.session.specs.Program.{TookIn, nextAfter}
 use Rattle.session.proofs.run.Statement.{statement}
 use Rattle.session.proofs.run.Tie as tie
 
@@ -31,6 +32,19 @@ took-more x y z read n piece t h m =
       turns = more (t .turns) m;
       count = omega (arith, length-append (t .input) (take n piece), length-take-le n piece h);
     }
+
+-- a turn is followed by one more only where it read
+reads-on : (f : Bool) (n : ℕ) (w : Bool) → nextAfter f n w ≡ More → 0 < n
+reads-on true n w e = let z : _≡_ {A = ℕ} 0 1 = cc in omega arith
+reads-on false zero w e = let z : _≡_ {A = ℕ} 0 1 = cc in omega arith
+reads-on false (suc n) w e = omega arith
+
+-- and by no stop that says that it is full
+never-full : (f : Bool) (n : ℕ) (w : Bool) → nextAfter f n w ≡ Done Full → ⊥
+never-full true n w e = let z : _≡_ {A = ℕ} 0 1 = cc in omega arith
+never-full false zero w e = let z : _≡_ {A = ℕ} 0 1 = cc in omega arith
+never-full false (suc n) true e = let z : _≡_ {A = ℕ} 0 1 = cc in omega arith
+never-full false (suc n) false e = let z : _≡_ {A = ℕ} 0 1 = cc in omega arith
 
 loop-holds : tie.Need-loop-holds Inv-loop μ-loop
 loop-holds c = (refl, refl, record { input = []; answered = []; turns = no-turns; count = refl })
@@ -62,17 +76,33 @@ write-answers-requires c κs = c .before .before .before .before .before .before
 abbrev readOf : tie.After-write-answers Inv-loop μ-loop → tie.After-take-in Inv-loop μ-loop
 readOf c = c .before .before .before .before .before .before .before .before
 
-returns : tie.Need-returns Inv-loop μ-loop
-returns c = (turned (readOf (c .before)), λ e w. absurd (true≢false e))
+-- what follows the turn
+followed : (c : tie.After-after-turn Inv-loop μ-loop)
+    → let r = readOf (c .before) .take-in .result in
+    nextAfter (r .failed) (r .read) (c .before .write-answers .result) ≡ c .after-turn .result
+followed c = sym (c .after-turn .ensures)
 
-returns-2 : tie.Need-returns-2 Inv-loop μ-loop
-returns-2 c = (turned (readOf (c .before .before)), λ e w. absurd (not-both (c .if2 .taken) (ap not w)))
+returns : tie.Need-returns Inv-loop μ-loop
+returns c =
+    let k = c .before in
+    let t = k .before .before in
+    let r = readOf (t .before) .take-in .result in (
+      turned (readOf (t .before)),
+      λ e. absurd (never-full (r .failed) (r .read) (t .before .write-answers .result) (followed t ∙ k .next .given .1 ∙ ap Done e)),
+    )
+
+loop-less : tie.Need-loop-less Inv-loop μ-loop
+loop-less c =
+    let t = c .before .before in
+    let r = readOf (t .before) .take-in .result in
+    let h = reads-on (r .failed) (r .read) (t .before .write-answers .result) (followed t ∙ c .enum-told .given .1) in
+    omega arith
 
 loop-again : tie.Need-loop-again Inv-loop μ-loop
-loop-again c = (search needs, search needs, turned (readOf (c .before .before)))
+loop-again c = (search needs, search needs, turned (readOf (c .before .before .before)))
 
-returns-3 : tie.Need-returns-3 Inv-loop μ-loop
-returns-3 c = (c .before .loop .inv .2, λ e w. omega arith)
+returns-2 : tie.Need-returns-2 Inv-loop μ-loop
+returns-2 c = (c .before .loop .inv .2, λ e. omega arith)
 
 pub run-spec : {M : Type 1} → statement M
 run-spec =
@@ -89,14 +119,14 @@ run-spec =
     slice-aggregate-write-answers-2
     write-answers-requires
     (λ c. search needs)
+    (λ c κs. search needs)
+    (λ c. search needs)
     (λ c. search needs)
     (λ c. search needs)
     returns
     (λ c. search needs)
-    (λ c. search needs)
-    returns-2
-    (λ c. search needs)
+    loop-less
     loop-again
     (λ c. search needs)
     (λ c. search needs)
-    returns-3)
+    returns-2)

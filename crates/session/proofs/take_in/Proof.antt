@@ -2,15 +2,28 @@
 -- Assumes nothing.
 use native.Mathlib.Omega.{arith}
 use mathlib.Core.List.{List}
+use mathlib.Core.Path.{_≡_}
+use mathlib.Core.Bool.{true}
 use Prim.Native.Nat.{ℕ, _*_, _≤_}
+use lib.IntN.{ℤ, pos, negsuc}
+use lib.Signed.{ltZ}
 use lib.ListN.{length, take, length-take}
+use mir.Syntax.{w64}
+use mir.Val.{toZ, ofZ}
+use borrow.Author.Tests.{ltb-true}
 use borrow.Author.Needs.{needs}
+use Rattle.io.specs.Counts.{clamped}
 use Rattle.stream.specs.declared.Stream.{Stream}
 use Rattle.stream.specs.Input.{outputWidth, answersTo, Taken}
 use Rattle.stream.proofs.Bytes.{over-within, over-first}
 use Rattle.stream.proofs.Pieces.{fed-taken}
 use Rattle.session.proofs.take_in.Statement.{statement}
 use Rattle.session.proofs.take_in.Tie as tie
+
+-- of a read that failed no byte is counted
+none-read : (z : ℤ) (n most : ℕ) → n ≡ clamped z most → ltZ z (pos 0) ≡ true → n ≡ 0
+none-read (pos k) n most h e = let l = ltb-true k 0 e in omega arith
+none-read (negsuc k) n most h e = h
 
 module _ (c : tie.After-feed) where
   abbrev counted : tie.After-count
@@ -49,6 +62,8 @@ returns c =
       turn = t .turn;
       room = over-within answers (before f) (now f) (f .feed .result .count) (t .written) (t .count);
       answers = over-first answers (before f) (now f) (f .feed .result .count) (t .written) (t .count);
+      nothing = λ e.
+          none-read (toZ w64 (ofZ w64 (read f .read .result))) _ _ (counted f .count .ensures .1) e;
     }
 
 pub take-in-spec : {M : Type 1} → statement M
