@@ -25,6 +25,6 @@ scenes! {
     kills kills_while_logs_begin_anew full_disk_for_calls full_disk_for_answers small_file_system
     closed_output second_start torn_call torn_answer answers_ahead answers_of_another_program
     answers_lost ends_that_do_not_block input_that_cannot_be_read input_ends_in_a_line
-    lines_in_pieces long_line call_is_kept_before_it_is_made program_that_fails logs_begin_anew
+    lines_in_pieces long_line call_is_kept_before_it_is_made program_that_fails long_replay_is_shown logs_begin_anew
     new_pair_half_begun looks
 }

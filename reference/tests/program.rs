@@ -1,18 +1,18 @@
 //! How the program under test reads and writes: pieces, waiting, long lines,
-//! closed output. What it answers is compared with the second implementation.
-//! And how the script `session` starts it, short of proving, and how it goes
-//! on after a stop.
+//! ends that fail. What it answers is compared with the second implementation.
+//! And how the script `session` starts it, short of proving.
 
 use reference::compare::{must_exist, program, run};
 use reference::generate::{list, Kind};
 use reference::random::Random;
 use reference::session;
 use reference::spoil::READ_BYTES;
-use reference::wire::{lines, ANSWER_BYTES, FIELD_BYTES, MESSAGE_BYTES};
+use reference::wire::{ANSWER_BYTES, FIELD_BYTES, MESSAGE_BYTES};
 use std::fs;
 use std::io::{BufRead, BufReader, ErrorKind, Read, Write};
+use std::os::fd::OwnedFd;
 use std::os::unix::fs::symlink;
-use std::os::unix::process::CommandExt;
+use std::os::unix::net::UnixStream;
 use std::path::{Path, PathBuf};
 use std::process::{Child, ChildStdin, ChildStdout, Command, Output, Stdio};
 use std::thread;
@@ -369,6 +369,61 @@ fn closed_output_ends_the_program() {
     assert_eq!(error, ErrorKind::BrokenPipe);
 }
 
+/// What a program that a command starts writes, and what it says.
+fn run_in_shell(command: &str) -> (String, String) {
+    let program = program();
+    must_exist(&program).unwrap_or_else(|message| panic!("{message}"));
+    let output = Command::new("bash")
+        .args(["-c", command, "bash"])
+        .arg(program)
+        .output()
+        .expect("the command runs");
+    let [answers, told] = [output.stdout, output.stderr].map(|bytes| {
+        let text = String::from_utf8(bytes);
+        text.expect("text")
+    });
+    (answers, told)
+}
+
+const NOT_READ: &str = "session: standard input cannot be read; nothing more is answered\n";
+const NOT_WRITTEN: &str = "session: standard output cannot be written; nothing more is answered\n";
+
+#[test]
+fn failed_read_is_told() {
+    for input in ["< .", "<&-"] {
+        let told = run_in_shell(&format!("\"$1\" {input}"));
+        assert_eq!(told, (String::new(), NOT_READ.to_string()), "{input}");
+    }
+}
+
+/// The input has not ended: a line that has begun is not answered.
+#[test]
+fn line_before_a_failed_read_is_not_answered() {
+    let (mut here, there) = UnixStream::pair().expect("a pair");
+    there.set_nonblocking(true).expect("a flag");
+    here.write_all(&[OPENING, &ENTERING[..40]].concat())
+        .expect("there is room");
+    let program = program();
+    must_exist(&program).unwrap_or_else(|message| panic!("{message}"));
+    let output = Command::new(program)
+        .stdin(Stdio::from(OwnedFd::from(there)))
+        .output()
+        .expect("it ends");
+    assert_eq!(text(&output.stdout), DONE);
+    assert_eq!(text(&output.stderr), NOT_READ);
+}
+
+/// Also where it is the answer to a last line without its line feed.
+#[test]
+fn failed_write_is_told() {
+    for input in ["x\\n", "x"] {
+        for output in ["> /dev/full", ">&-"] {
+            let (_, told) = run_in_shell(&format!("printf '{input}' | \"$1\" {output}"));
+            assert_eq!(told, NOT_WRITTEN, "{input} {output}");
+        }
+    }
+}
+
 const SCRIPT: &str = concat!(env!("CARGO_MANIFEST_DIR"), "/../session");
 
 fn script(words: &[&str]) -> (Output, String) {
@@ -385,7 +440,13 @@ fn script_has_a_help() {
     let help = String::from_utf8_lossy(&output.stdout);
     assert!(output.status.success(), "{}", output.status);
     assert_eq!(told, "");
-    for word in ["usage: ./session", "take off", "README.md", "Exit status"] {
+    for word in [
+        "usage: ./session",
+        "take off",
+        "README.md",
+        "--build",
+        "Exit status",
+    ] {
         assert!(help.contains(word), "{word}: {help}");
     }
 }
@@ -400,36 +461,6 @@ fn script_refuses_other_arguments() {
     }
 }
 
-/// A folder of its own, with something in it to run as `./session`.
-struct Folder {
-    path: PathBuf,
-}
-
-impl Folder {
-    fn with_session(name: &str, session: impl AsRef<Path>) -> Folder {
-        let name = format!("{name}-{}", std::process::id());
-        let path = Path::new(env!("CARGO_TARGET_TMPDIR")).join(name);
-        fs::create_dir_all(&path).expect("a folder");
-        symlink(session, path.join("session")).expect("a link");
-        Folder { path }
-    }
-
-    fn file(&self, name: &str) -> PathBuf {
-        self.path.join(name)
-    }
-
-    fn read(&self, name: &str) -> Vec<u8> {
-        fs::read(self.file(name)).unwrap_or_default()
-    }
-}
-
-impl Drop for Folder {
-    fn drop(&mut self) {
-        // A folder left there harms nobody.
-        let _ = fs::remove_dir_all(&self.path);
-    }
-}
-
 /// Two crates that `session` needs, in two ways; one that it does not need; one
 /// of the kit.
 const CRATES: &str = "# NAME: what it needs
@@ -439,41 +470,71 @@ other: one two
 session: one two io
 ";
 
-/// The script in a project with a made-up prover, so that nothing has to be
-/// proved.
-fn start_script(folder: &Folder, prover: &str) -> Child {
-    fs::create_dir(folder.file("crates")).expect("a folder");
-    fs::write(folder.file("crates.txt"), CRATES).expect("a file");
-    Command::new(folder.file("session"))
+/// A made-up prover that writes a program.
+const WRITES: &str =
+    "mkdir -p target/bin; echo 'echo run' > target/bin/session; chmod +x target/bin/session";
+
+/// A project with a copy of the script, in which nothing has to be proved.
+struct Project {
+    path: PathBuf,
+}
+
+impl Project {
+    fn new(name: &str) -> Project {
+        let name = format!("{name}-{}", std::process::id());
+        let path = Path::new(env!("CARGO_TARGET_TMPDIR")).join(name);
+        fs::create_dir_all(path.join("crates")).expect("a folder");
+        fs::copy(SCRIPT, path.join("session")).expect("a copy");
+        fs::write(path.join("crates.txt"), CRATES).expect("a file");
+        Project { path }
+    }
+
+    fn file(&self, name: &str) -> PathBuf {
+        self.path.join(name)
+    }
+
+    fn command(&self, name: &str, prover: &str) -> Command {
+        let mut command = Command::new(self.file(name));
         // Bash takes a function from the environment as a command.
-        .env("BASH_FUNC_rt%%", format!("() {{ {prover}\n}}"))
-        .stdin(Stdio::null())
-        .stdout(Stdio::piped())
-        .stderr(Stdio::piped())
-        .spawn()
-        .expect("the script runs")
+        command
+            .env("BASH_FUNC_rt%%", format!("() {{ {prover}\n}}"))
+            .stdin(Stdio::null());
+        command
+    }
+
+    fn start(&self, prover: &str) -> Child {
+        let mut command = self.command("session", prover);
+        let command = command.stdout(Stdio::piped()).stderr(Stdio::piped());
+        command.spawn().expect("the script runs")
+    }
+}
+
+impl Drop for Project {
+    fn drop(&mut self) {
+        // A folder left there harms nobody.
+        let _ = fs::remove_dir_all(&self.path);
+    }
 }
 
 /// The prover waits after its second crate until the test has seen the line.
 #[test]
 fn script_shows_each_crate_when_it_is_done() {
-    let folder = Folder::with_session("proving", SCRIPT);
-    let mut child = start_script(
-        &folder,
+    let project = Project::new("proving");
+    let mut child = project.start(&format!(
         "echo 'rt: one proved (unchanged since it was last proved)'
         echo fn two::f: proved; echo 'rt: two proved (1 s)'
         while [ ! -e seen ]; do sleep 0.01; done
         echo 'rt: session proved (2 s)'
         echo 'rt: session ran, and wrote what its file has (0 s)'
-        mkdir -p target/bin; echo 'echo run' > target/bin/session; chmod +x target/bin/session",
-    );
+        {WRITES}"
+    ));
     let mut told = BufReader::new(child.stderr.take().expect("its errors")).lines();
     let mut next = || told.next().map(|line| line.expect("text"));
     assert!(next().is_some_and(|line| line.starts_with("session: proving")));
     let unchanged = "session: 1 of 3 proved: one (unchanged since it was last proved)";
     assert_eq!(next().as_deref(), Some(unchanged));
     assert_eq!(next().as_deref(), Some("session: 2 of 3 proved: two (1 s)"));
-    fs::write(folder.file("seen"), "").expect("a file");
+    fs::write(project.file("seen"), "").expect("a file");
     let last = "session: 3 of 3 proved: session (2 s)";
     assert_eq!(next().as_deref(), Some(last));
     assert_eq!(next(), None);
@@ -483,11 +544,9 @@ fn script_shows_each_crate_when_it_is_done() {
 
 #[test]
 fn script_shows_all_where_the_proof_fails() {
-    let folder = Folder::with_session("refused", SCRIPT);
-    let child = start_script(
-        &folder,
-        "echo 'rt: one proved (1 s)'; echo error: no; echo 'rt: FAILED: session'; exit 3",
-    );
+    let project = Project::new("refused");
+    let child = project
+        .start("echo 'rt: one proved (1 s)'; echo error: no; echo 'rt: FAILED: session'; exit 3");
     let output = child.wait_with_output().expect("the script ends");
     let told = String::from_utf8_lossy(&output.stderr);
     assert_eq!(output.status.code(), Some(1));
@@ -495,162 +554,35 @@ fn script_shows_all_where_the_proof_fails() {
     assert_eq!(output.stdout, b"");
 }
 
-/// README's lines for a start and each start after a stop.
-fn kept_commands() -> String {
-    let readme = include_str!("../../README.md");
-    let section = readme.split_once("## Running it on a line\n");
-    let (_, section) = section.expect("README has the section");
-    let is_command = |line: &&str| line.starts_with("    ");
-    let from_first = section.lines().skip_while(|line| !is_command(line));
-    let commands: Vec<&str> = from_first.take_while(is_command).collect();
-    commands.join("\n")
-}
-
-/// How a run stops.
-#[derive(Clone, Copy, Debug, PartialEq, Eq)]
-enum Stop {
-    KilledInALine,
-    InputEndsInALine,
-    /// A whole call is in its log, but its answer is not.
-    KilledBeforeAnAnswer,
-}
-
-impl Stop {
-    const ALL: [Stop; 3] = [
-        Stop::KilledInALine,
-        Stop::InputEndsInALine,
-        Stop::KilledBeforeAnAnswer,
-    ];
-}
-
-/// A line whose calls and answers are kept, as its users see it.
-struct Kept {
-    folder: Folder,
-    received: String,
-    /// Whether the last stop left a call that has no answer yet.
-    owed: bool,
-}
-
-impl Kept {
-    fn new(name: &str) -> Kept {
-        let program = fs::canonicalize(program()).expect("the program is built");
-        Kept {
-            folder: Folder::with_session(name, program),
-            received: String::new(),
-            owed: false,
-        }
-    }
-
-    fn commands(&self) -> Command {
-        let mut command = Command::new("bash");
-        command
-            .args(["-c", &kept_commands()])
-            .current_dir(&self.folder.path);
-        command
-    }
-
-    fn start(&mut self) -> Running {
-        // The group is what a stop kills.
-        let mut running = Running::of(self.commands().process_group(0));
-        if self.owed {
-            self.received += &running.answer();
-        }
-        running
-    }
-
-    /// Sends the calls one by one, each after the answer to the one before.
-    fn send(&mut self, running: &mut Running, calls: &[&[u8]]) {
-        for call in calls {
-            running.write(call);
-            self.received += &running.answer();
-        }
-    }
-
-    /// Stops a run to which this call was just sent, or the first part of it.
-    fn stop(&mut self, mut running: Running, how: Stop, call: &[u8], part: usize) {
-        let part = &call[..part];
-        self.owed = true;
-        self.received += &match how {
-            Stop::KilledInALine => {
-                self.write_to_the_log(&mut running, part);
-                killed(running)
-            }
-            Stop::InputEndsInALine => {
-                self.owed = false;
-                running.write(part);
-                running.finish()
-            }
-            Stop::KilledBeforeAnAnswer => {
-                let rest = killed(running);
-                let log = [self.folder.read("calls.log"), call.to_vec()];
-                fs::write(self.folder.file("calls.log"), log.concat()).expect("a file");
-                rest
-            }
-        };
-    }
-
-    fn write_to_the_log(&self, running: &mut Running, part: &[u8]) {
-        let bytes = || self.folder.read("calls.log").len();
-        let goal = bytes() + part.len();
-        running.write(part);
-        let begin = Instant::now();
-        while bytes() < goal && begin.elapsed() < PATIENCE {
-            thread::sleep(Duration::from_millis(1));
-        }
-    }
-}
-
-/// Kills a run with all its programs, and gives what is left of its output.
-fn killed(mut running: Running) -> String {
-    let kill = format!("kill -KILL -- -{}", running.child.id());
-    let status = Command::new("bash").args(["-c", &kill]).status();
-    assert!(status.is_ok_and(|status| status.success()), "{kill}");
-    let mut rest = String::new();
-    let mut output = running.output.take().expect("the output is open");
-    output.read_to_string(&mut rest).expect("answers are text");
-    rest
-}
-
-/// Whatever stops it, each call is answered once, and as if it never stopped.
+/// A line must not wait for a proof because a file was touched.
 #[test]
-fn stopped_line_goes_on_where_it_stopped() {
-    const ROUNDS: usize = 8;
-    let mut random = Random::new(5);
-    let list = list(9, Kind::Tight);
-    let calls: Vec<&[u8]> = lines(&list).collect();
-    let mut kept = Kept::new("kept");
-    let mut next = 0;
-    for how in Stop::ALL.repeat(ROUNDS) {
-        let mut running = kept.start();
-        let count = random.below(20) as usize;
-        kept.send(&mut running, &calls[next..next + count]);
-        next += count;
-        let part = random.between(1, MESSAGE_BYTES as u64) as usize;
-        kept.stop(running, how, calls[next], part);
-        next += usize::from(how == Stop::KilledBeforeAnAnswer);
+fn script_starts_what_is_built() {
+    let project = Project::new("newer");
+    symlink("session", project.file("link")).expect("a link");
+    let run = |name, words: &[&str], prover: &str| {
+        let mut command = project.command(name, prover);
+        let output = command.args(words).output().expect("the script runs");
+        let told = String::from_utf8_lossy(&output.stderr).into_owned();
+        (output.stdout, told)
+    };
+    run("link", &["--build"], WRITES);
+    assert_eq!(
+        run("link", &[], "exit 1"),
+        (b"run\n".to_vec(), String::new())
+    );
+    thread::sleep(Duration::from_millis(10));
+    fs::write(project.file("crates/stray"), "").expect("a file");
+    for name in ["session", "link"] {
+        let (answers, told) = run(name, &[], "exit 1");
+        assert_eq!(answers, b"run\n");
+        assert!(told.starts_with("session: crates"), "{told}");
+        assert!(told.contains("./session --build"), "{told}");
     }
-    let mut running = kept.start();
-    kept.send(&mut running, &calls[next..]);
-    assert_eq!(running.finish(), "");
-
-    let log = kept.folder.read("calls.log");
-    assert_eq!(kept.received.as_bytes(), session::run(&log));
-    assert_eq!(kept.received.as_bytes(), kept.folder.read("answers.log"));
-    // A line that a stop cut stays in the log, and is sent again.
-    let (cut, whole): (Vec<&[u8]>, Vec<&[u8]>) =
-        lines(&log).partition(|line| line.ends_with(b"x\n"));
-    assert_eq!(whole, calls);
-    assert_eq!(cut.len(), 2 * ROUNDS);
-}
-
-/// Answers that are not those of the calls are told, and nothing goes out.
-#[test]
-fn logs_that_do_not_fit_are_told() {
-    let kept = Kept::new("unfit");
-    fs::write(kept.folder.file("calls.log"), ENTERING).expect("a file");
-    fs::write(kept.folder.file("answers.log"), DONE).expect("a file");
-    let mut commands = kept.commands();
-    let output = commands.stdin(Stdio::null()).output().expect("they run");
-    assert_eq!(output.stdout, b"");
-    assert!(String::from_utf8_lossy(&output.stderr).contains("differ"));
+    let (answers, told) = run("session", &["--build"], WRITES);
+    assert_eq!(answers, b"");
+    assert!(told.starts_with("session: proving"), "{told}");
+    assert_eq!(
+        run("session", &[], "exit 1"),
+        (b"run\n".to_vec(), String::new())
+    );
 }

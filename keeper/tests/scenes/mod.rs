@@ -46,6 +46,7 @@ pub const SCENES: &[(&str, Scene)] = &[
         call_is_kept_before_it_is_made,
     ),
     ("program_that_fails", program_that_fails),
+    ("long_replay_is_shown", long_replay_is_shown),
     ("logs_begin_anew", logs_begin_anew),
     ("new_pair_half_begun", new_pair_half_begun),
     ("looks", looks),
@@ -169,11 +170,11 @@ fn send(run: &mut Running, calls: &[u8], random: &mut Random) {
 }
 
 fn kills(keep: &Path) {
-    stopped_often(keep, "kills", &list(9, Kind::Tight), 48);
+    stopped_often(keep, "kills", &list(9, Kind::Tight), 80);
 }
 
 fn kills_while_logs_begin_anew(keep: &Path) {
-    stopped_often(keep, "anew", &coming_and_going(120), 40);
+    stopped_often(keep, "anew", &coming_and_going(300), 80);
 }
 
 /// Sends calls one by one until it stops by itself.
@@ -570,6 +571,18 @@ fn program_that_fails(keep: &Path) {
     let run = kept.sent(b"\n");
     assert_eq!(run.status, Some(3), "{}", run.told);
     assert!(run.told.contains("./session --build"), "{}", run.told);
+}
+
+fn long_replay_is_shown(keep: &Path) {
+    let mut kept = Kept::new(keep, "long-replay");
+    let slow = r"sleep 1.1; while read -r call; do printf '%2d%14d%14d%14d\n' 1 0 0 0; done";
+    made_up(&mut kept, slow);
+    kept.put("calls.log", b"1\n2\n3\n");
+    kept.put("answers.log", &UNREADABLE.repeat(3));
+    let run = kept.sent(b"4\n");
+    assert_eq!(run.status, Some(0), "{}", run.told);
+    assert!(run.told.contains("replaying: 6 of 6 bytes"), "{}", run.told);
+    same(&run.received, UNREADABLE, "answers");
 }
 
 /// Each time the last train has left. The archive has every line, and what
