@@ -1,7 +1,7 @@
 //! The folder of a line: its lock, the open pair of logs, and the archive.
 
 use crate::failure::{of_file, of_flush, shown, tell, Failure, LOOK_FIRST};
-use std::fs::{self, File, OpenOptions, TryLockError};
+use std::fs::{self, File, TryLockError};
 use std::io::{self, Write};
 use std::path::{Path, PathBuf};
 
@@ -12,7 +12,7 @@ pub const ANSWERS: &str = "answers.log";
 const ARCHIVE: &str = "archive";
 const PAIR: [(&str, &str); 2] = [(CALLS, "next-calls.log"), (ANSWERS, "next-answers.log")];
 /// The process that holds the folder writes its number there.
-const LOCK: &str = "lock";
+const HOLDER: &str = "holder";
 
 /// A log that is open. What is kept in it is on the disk afterwards.
 pub struct Log {
@@ -57,18 +57,17 @@ pub struct Folder {
 }
 
 impl Folder {
+    /// The lock is on the folder itself: no file is there to be cleared away.
     pub fn hold(path: &Path) -> Result<Folder, Failure> {
         of_file(path, make_folder(path))?;
-        let mut options = OpenOptions::new();
-        let options = options.create(true).truncate(false).read(true).write(true);
-        let mut lock = of_file(path, options.open(path.join(LOCK)))?;
+        let lock = of_file(path, File::open(path))?;
         match lock.try_lock() {
             Err(TryLockError::WouldBlock) => return Err(held(path)),
             Err(TryLockError::Error(error)) => of_file(path, Err(error))?,
             Ok(()) => {}
         }
-        of_file(path, lock.set_len(0))?;
-        of_file(path, writeln!(lock, "{}", std::process::id()))?;
+        let holder = format!("{}\n", std::process::id());
+        of_file(path, fs::write(path.join(HOLDER), holder))?;
         let path = path.to_path_buf();
         Ok(Folder { path, _lock: lock })
     }
@@ -172,7 +171,7 @@ fn changing(folder: &Path) -> io::Result<Option<PathBuf>> {
 }
 
 fn held(folder: &Path) -> Failure {
-    let holder = fs::read_to_string(folder.join(LOCK)).unwrap_or_default();
+    let holder = fs::read_to_string(folder.join(HOLDER)).unwrap_or_default();
     let what = format!("{} is held by process {}", folder.display(), holder.trim());
     Failure::new(
         LOOK_FIRST,

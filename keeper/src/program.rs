@@ -4,10 +4,10 @@ use crate::failure::{shown, Failure, LOOK_FIRST, START_AGAIN};
 use crate::lines::{count, each, ANSWER};
 use std::io::{self, Read, Write};
 use std::process::{Child, ChildStdin, ChildStdout, Command, Stdio};
+use std::thread;
 
-/// The program gets so many bytes at a time, which every pipe has room for, and
-/// the next ones when these are answered. So neither waits for the other.
-const PIECE: usize = 4096;
+/// Every pipe has room for so many bytes.
+const ROOM: usize = 4096;
 
 pub struct Program {
     child: Child,
@@ -35,11 +35,9 @@ impl Program {
 
     /// The answers to whole lines.
     pub fn answers(&mut self, calls: &[u8]) -> Result<Vec<u8>, Failure> {
-        let mut answers = Vec::with_capacity(count(calls) * ANSWER);
-        for piece in calls.chunks(PIECE) {
-            let asked = self.ask(piece, &mut answers);
-            asked.map_err(|_| self.ended())?;
-        }
+        let mut answers = vec![0; count(calls) * ANSWER];
+        let asked = self.ask(calls, &mut answers);
+        asked.map_err(|_| self.ended())?;
         if let Some(line) = each(&answers).find(|line| line.len() != ANSWER) {
             let what = format!("the session program wrote {}, no answer", shown(line));
             let remedy = "look whether it is the right program";
@@ -48,11 +46,19 @@ impl Program {
         Ok(answers)
     }
 
-    fn ask(&mut self, piece: &[u8], answers: &mut Vec<u8>) -> io::Result<()> {
-        self.input.write_all(piece)?;
-        let before = answers.len();
-        answers.resize(before + count(piece) * ANSWER, 0);
-        self.output.read_exact(&mut answers[before..])
+    /// Many calls are written while answers are read, so that neither program
+    /// waits for the other.
+    fn ask(&mut self, calls: &[u8], answers: &mut [u8]) -> io::Result<()> {
+        let (input, output) = (&mut self.input, &mut self.output);
+        if calls.len() <= ROOM {
+            input.write_all(calls)?;
+            return output.read_exact(answers);
+        }
+        thread::scope(|scope| {
+            // Where the program ends, this fails too.
+            scope.spawn(|| input.write_all(calls).is_ok());
+            output.read_exact(answers)
+        })
     }
 
     /// Its input ends, so it ends too.

@@ -228,28 +228,28 @@ fn full_disk_for_answers(keep: &Path) {
 }
 
 /// A file system of its own, where one may be mounted; elsewhere the limit of the
-/// two scenes before this has to do.
+/// two scenes before this has to do. It fills with one pair of logs, and with many
+/// old ones.
 fn small_file_system(keep: &Path) {
-    let kept = Kept::new(keep, "small");
-    fs::create_dir_all(&kept.folder).expect("a folder");
-    let mount = Command::new("mount")
-        .args(["-t", "tmpfs", "-o", "size=64k", "none"])
-        .arg(&kept.folder)
-        .stderr(Stdio::null())
-        .status();
-    if !mount.is_ok_and(|status| status.success()) {
-        return;
+    let mount = |options: &str, folder: &Path| {
+        let mut command = Command::new("mount");
+        command.args(["-t", "tmpfs", "-o", options, "none"]);
+        let status = command.arg(folder).stderr(Stdio::null()).status();
+        status.is_ok_and(|status| status.success())
+    };
+    for calls in [list(9, Kind::Tight), coming_and_going(100)] {
+        let kept = Kept::new(keep, "small");
+        fs::create_dir_all(&kept.folder).expect("a folder");
+        if !mount("size=64k", &kept.folder) {
+            return;
+        }
+        let calls = as_lines(&calls);
+        let run = until_it_stops(kept.start(), &calls);
+        assert!(mount("remount,size=4m", &kept.folder));
+        stops_and_goes_on(&kept, &run, &calls, "No space left on device");
+        let unmounted = Command::new("umount").arg(&kept.folder).status();
+        assert!(unmounted.is_ok_and(|status| status.success()));
     }
-    let calls = as_lines(&list(9, Kind::Tight));
-    let run = until_it_stops(kept.start(), &calls);
-    let more = Command::new("mount")
-        .args(["-o", "remount,size=4m"])
-        .arg(&kept.folder)
-        .status();
-    assert!(more.is_ok_and(|status| status.success()));
-    stops_and_goes_on(&kept, &run, &calls, ".log");
-    let unmounted = Command::new("umount").arg(&kept.folder).status();
-    assert!(unmounted.is_ok_and(|status| status.success()));
 }
 
 /// Nobody takes the answers: the one that could not go out is in the log, and
@@ -285,6 +285,15 @@ fn second_start(keep: &Path) {
     let second = kept.sent(&calls[1]);
     assert_eq!(second.status, Some(3), "{}", second.told);
     assert_eq!(second.received, b"");
+    let files = fs::read_dir(&kept.folder).expect("a folder");
+    for file in files.map(|file| file.expect("a file").path()) {
+        let name = file.file_name().expect("a name").to_string_lossy();
+        if !name.ends_with(".log") {
+            // Whatever looks like a stale lock may be cleared away.
+            fs::remove_file(&file).expect("it is there");
+        }
+    }
+    assert_eq!(kept.sent(&calls[1]).status, Some(3));
     let holder = format!("held by process {}", first.id());
     assert!(second.told.contains(&holder), "{}", second.told);
     first.write(&calls[1]).expect("it reads");
