@@ -51,11 +51,9 @@ impl Keeper {
         let logs = folder.logs()?;
         let pair = of_file(path, Pair::open(path))?;
         let mut program = Program::start()?;
-        let replayed = replay(pair, &mut program)?;
+        let replayed = replay(path, pair, &mut program)?;
         replayed.lacks_no_answer()?;
-        for ((log, whole), torn) in logs.iter().zip(replayed.whole).zip(&replayed.torn) {
-            log.mend(whole, torn)?;
-        }
+        logs.iter().try_for_each(Log::mend)?;
         let mut keeper = Keeper {
             folder,
             logs,

@@ -1,8 +1,9 @@
 //! The folder of a line: its lock, the open pair of logs, and the archive.
 
-use crate::failure::{of_file, of_flush, shown, tell, Failure, LOOK_FIRST};
+use crate::failure::{of_file, of_flush, tell, Failure, LOOK_FIRST};
 use std::fs::{self, File, TryLockError};
 use std::io::{self, Write};
+use std::os::unix::fs::FileExt;
 use std::path::{Path, PathBuf};
 
 pub const CALLS: &str = "calls.log";
@@ -22,7 +23,11 @@ pub struct Log {
 
 impl Log {
     fn open(path: PathBuf) -> Result<Log, Failure> {
-        let opened = File::options().append(true).create(true).open(&path);
+        let opened = File::options()
+            .read(true)
+            .append(true)
+            .create(true)
+            .open(&path);
         let file = of_file(&path, opened)?;
         Ok(Log { path, file })
     }
@@ -36,18 +41,37 @@ impl Log {
         of_flush(&self.path, self.file.sync_data())
     }
 
-    /// Takes off what a stop left of a last line. Nobody was answered for it.
-    pub fn mend(&self, whole: u64, torn: &[u8]) -> Result<(), Failure> {
-        if torn.is_empty() {
-            return Ok(());
+    /// Takes off what a stop left of a last line: nobody was answered for it. What
+    /// stands there is on the disk from now on, also where a kill came before a
+    /// flush.
+    pub fn mend(&self) -> Result<(), Failure> {
+        let whole = of_file(&self.path, whole(&self.file))?;
+        let all = of_file(&self.path, self.file.metadata())?.len();
+        if all > whole {
+            let (path, torn) = (self.path.display(), all - whole);
+            tell(&format!(
+                "{path}: its last line, cut by a stop, is taken off: {torn} bytes"
+            ));
+            of_file(&self.path, self.file.set_len(whole))?;
         }
-        let (path, torn) = (self.path.display(), shown(torn));
-        tell(&format!(
-            "{path}: its last line, cut by a stop, is taken off: {torn}"
-        ));
-        of_file(&self.path, self.file.set_len(whole))?;
         self.flush()
     }
+}
+
+/// Bytes of a log up to its last line feed.
+pub fn whole(log: &File) -> io::Result<u64> {
+    let mut block = [0; 4096];
+    let mut end = log.metadata()?.len();
+    while end > 0 {
+        let start = end.saturating_sub(block.len() as u64);
+        let part = &mut block[..(end - start) as usize];
+        log.read_exact_at(part, start)?;
+        if let Some(feed) = part.iter().rposition(|&byte| byte == b'\n') {
+            return Ok(start + feed as u64 + 1);
+        }
+        end = start;
+    }
+    Ok(0)
 }
 
 /// The folder, held by this process alone until it ends.
@@ -72,7 +96,7 @@ impl Folder {
         Ok(Folder { path, _lock: lock })
     }
 
-    /// The open pair, calls first. What stands there is on the disk from now on.
+    /// The open pair, calls first.
     pub fn logs(&self) -> Result<[Log; 2], Failure> {
         of_file(&self.path, self.change())?;
         let [calls, answers] = [CALLS, ANSWERS].map(|name| self.path.join(name));
@@ -89,7 +113,6 @@ impl Folder {
         }
         let logs = [Log::open(calls)?, Log::open(answers)?];
         of_file(&self.path, sync_folder(&self.path))?;
-        logs.iter().try_for_each(Log::flush)?;
         Ok(logs)
     }
 

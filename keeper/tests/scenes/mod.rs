@@ -367,7 +367,7 @@ fn answers_ahead(keep: &Path) {
     let right = session::run(&calls.concat());
     kept.put("calls.log", &calls[..4].concat());
     let answer = String::from_utf8_lossy(&right[4 * ANSWER..5 * ANSWER - 1]).into_owned();
-    for bytes in [5 * ANSWER, 9 * ANSWER, 5 * ANSWER - 1] {
+    for bytes in [5 * ANSWER, 9 * ANSWER, 6 * ANSWER - 1] {
         kept.put("answers.log", &right[..bytes]);
         refuses(&kept, &["line 5", "(none)", &answer, "open the line anew"]);
     }
