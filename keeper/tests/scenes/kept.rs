@@ -28,6 +28,15 @@ pub fn as_lines(bytes: &[u8]) -> Vec<Vec<u8>> {
     whole.map(<[u8]>::to_vec).collect()
 }
 
+/// A line as it is kept: of a long one the first bytes alone.
+pub fn as_kept(line: &[u8]) -> Vec<u8> {
+    const MOST: usize = 87;
+    match line {
+        [start @ .., b'\n'] if start.len() > MOST => [&start[..MOST], b"\n"].concat(),
+        _ => line.to_vec(),
+    }
+}
+
 pub struct Kept {
     keep: PathBuf,
     root: PathBuf,

@@ -4,7 +4,7 @@
 
 mod kept;
 
-use kept::{as_lines, line, Kept, Running, Stopped, ANSWER};
+use kept::{as_kept, as_lines, line, Kept, Running, Stopped, ANSWER};
 use reference::compare::first_difference;
 use reference::generate::{list, Kind};
 use reference::random::Random;
@@ -98,6 +98,10 @@ fn stopped_often(keep: &Path, name: &str, calls: &[u8], stops: u64) {
         let end = (next + random.below(60) as usize).min(calls.len() - 1);
         let mut run = kept.start();
         send(&mut run, &calls[next..end].concat(), &mut random);
+        if random.once_in(2) {
+            // However slow it is, some stops come between answers.
+            run.has_answered(random.below((end - next) as u64 + 1) as usize);
+        }
         let run = match stop % 4 {
             0 => run.killed(),
             1 => run.program_killed(),
@@ -139,8 +143,12 @@ fn stopped_often(keep: &Path, name: &str, calls: &[u8], stops: u64) {
     let [taken, answers] = kept.told();
     same(&answers, &session::run(&taken), "answers");
     let whole: Vec<Vec<u8>> = as_lines(&taken).into_iter().filter(is_call).collect();
-    same(&whole.concat(), &calls.concat(), "calls");
-    assert!(count > calls.len() / 4, "only {count} calls came to a stop");
+    let sent: Vec<Vec<u8>> = calls.iter().map(|call| as_kept(call)).collect();
+    same(&whole.concat(), &sent.concat(), "calls");
+    assert!(
+        count > 3 * stops as usize,
+        "only {count} calls before the last stop"
+    );
 }
 
 /// Says in which line two texts differ.
@@ -170,11 +178,12 @@ fn send(run: &mut Running, calls: &[u8], random: &mut Random) {
 }
 
 fn kills(keep: &Path) {
-    stopped_often(keep, "kills", &list(9, Kind::Tight), 80);
+    let lists = [Kind::Tight, Kind::Garbage, Kind::Running].map(|kind| list(9, kind));
+    stopped_often(keep, "kills", &lists.concat(), 120);
 }
 
 fn kills_while_logs_begin_anew(keep: &Path) {
-    stopped_often(keep, "anew", &coming_and_going(300), 80);
+    stopped_often(keep, "anew", &coming_and_going(600), 120);
 }
 
 /// Sends calls one by one until it stops by itself.
@@ -347,18 +356,24 @@ fn torn_answer(keep: &Path) {
     }
 }
 
-/// It says in which line the logs do not fit, with both texts, answers nothing and
-/// leaves the logs as they are.
-fn refuses(kept: &Kept, words: &[&str]) {
-    let logs = (kept.read("calls.log"), kept.read("answers.log"));
-    for run in [kept.sent(b"\n"), kept.look("--check")] {
-        assert_eq!(run.status, Some(3), "{}", run.told);
-        assert_eq!(run.received, b"");
-        for word in words {
-            assert!(run.told.contains(word), "{word}: {}", run.told);
-        }
+/// It answers nothing, and says what these words say.
+fn is_refused(run: &Stopped, words: &[&str]) {
+    assert_eq!(run.status, Some(3), "{}", run.told);
+    same(&run.received, b"", "answers");
+    for word in words {
+        assert!(run.told.contains(word), "{word}: {}", run.told);
     }
-    assert_eq!((kept.read("calls.log"), kept.read("answers.log")), logs);
+}
+
+/// So does a look; and the logs stay as they are.
+fn refuses(kept: &Kept, words: &[&str]) {
+    let logs = ["calls.log", "answers.log"];
+    let before = logs.map(|name| kept.read(name));
+    is_refused(&kept.sent(b"\n"), words);
+    is_refused(&kept.look("--check"), words);
+    for (name, before) in logs.iter().zip(&before) {
+        same(&kept.read(name), before, name);
+    }
 }
 
 fn answers_ahead(keep: &Path) {
@@ -404,28 +419,10 @@ fn answers_lost(keep: &Path) {
     kept.put("calls.log", &calls);
     for bytes in [0, 10 * ANSWER] {
         kept.put("answers.log", &session::run(&calls)[..bytes]);
-        let run = kept.sent(b"\n");
-        assert_eq!(
-            (run.status, run.received),
-            (Some(3), Vec::new()),
-            "{}",
-            run.told
-        );
-        assert!(
-            run.told.contains("lacks answers that went out"),
-            "{}",
-            run.told
-        );
+        is_refused(&kept.sent(b"\n"), &["lacks answers that went out"]);
     }
     fs::remove_file(kept.path("answers.log")).expect("it was there");
-    let run = kept.sent(b"\n");
-    assert_eq!(
-        (run.status, run.received),
-        (Some(3), Vec::new()),
-        "{}",
-        run.told
-    );
-    assert!(run.told.contains("answers.log is missing"), "{}", run.told);
+    is_refused(&kept.sent(b"\n"), &["answers.log is missing"]);
 }
 
 /// Neither end blocks, as where a service manager opens them: it waits.
