@@ -4,13 +4,6 @@ use std::fmt::Display;
 use std::io::{self, ErrorKind, Write};
 use std::path::Path;
 
-/// A new start gets over it, once what the message asks for is done.
-pub const START_AGAIN: u8 = 1;
-/// A wrong argument.
-pub const USAGE: u8 = 2;
-/// Somebody has to look first: a new start would not help, or not be safe.
-pub const LOOK_FIRST: u8 = 3;
-
 /// What failed, what to do, and the exit status.
 pub struct Failure {
     pub status: u8,
@@ -18,20 +11,26 @@ pub struct Failure {
     pub remedy: String,
 }
 
-impl Failure {
-    pub fn new(status: u8, what: impl Display, remedy: impl Display) -> Failure {
-        let (what, remedy) = (what.to_string(), remedy.to_string());
-        Failure {
-            status,
-            what,
-            remedy,
-        }
-    }
+/// A new start gets over it, once what the message asks for is done.
+pub fn start_again(what: impl Display, remedy: &str) -> Failure {
+    failure(1, what, remedy)
+}
 
-    /// Of a keeper, which stops by it.
-    pub fn of_keeper(self) -> Failure {
-        let remedy = format!("nothing more is answered here; {}", self.remedy);
-        Failure { remedy, ..self }
+pub fn wrong_arguments(remedy: &str) -> Failure {
+    failure(2, "wrong arguments", remedy)
+}
+
+/// Somebody has to look first: a new start would not help, or not be safe.
+pub fn look_first(what: impl Display, remedy: &str) -> Failure {
+    failure(3, what, remedy)
+}
+
+fn failure(status: u8, what: impl Display, remedy: &str) -> Failure {
+    let (what, remedy) = (what.to_string(), remedy.to_string());
+    Failure {
+        status,
+        what,
+        remedy,
     }
 }
 
@@ -41,17 +40,9 @@ pub fn of_file<T>(path: &Path, result: io::Result<T>) -> Result<T, Failure> {
         let what = format!("{}: {error}", path.display());
         match error.kind() {
             ErrorKind::StorageFull | ErrorKind::QuotaExceeded | ErrorKind::FileTooLarge => {
-                Failure::new(
-                    START_AGAIN,
-                    what,
-                    "free space on its disk, then start again",
-                )
+                start_again(what, "free space on its disk, then start again")
             }
-            _ => Failure::new(
-                LOOK_FIRST,
-                what,
-                "look at its disk and its owner, then start again",
-            ),
+            _ => look_first(what, "look at its disk and its owner, then start again"),
         }
     })
 }
@@ -62,7 +53,7 @@ pub fn of_flush(path: &Path, result: io::Result<()>) -> Result<(), Failure> {
     result.map_err(|error| {
         let what = format!("{} cannot be flushed to the disk: {error}", path.display());
         let remedy = "its last lines may be lost: look at the disk before you start again";
-        Failure::new(LOOK_FIRST, what, remedy)
+        look_first(what, remedy)
     })
 }
 

@@ -1,7 +1,7 @@
 //! A line that is kept: each call on the disk before the program gets it, each
 //! answer before it goes out.
 
-use crate::failure::{of_file, tell, Failure, START_AGAIN};
+use crate::failure::{of_file, start_again, tell, Failure};
 use crate::lines::{each, Lines, ANSWER, BLOCK};
 use crate::logs::{Folder, Log};
 use crate::program::Program;
@@ -132,16 +132,12 @@ fn write_all(output: &mut File, mut bytes: &[u8]) -> io::Result<()> {
 
 fn unreadable(error: &io::Error) -> Failure {
     let what = format!("standard input cannot be read: {error}");
-    Failure::new(
-        START_AGAIN,
-        what,
-        "see to who sends the calls, then start again",
-    )
+    start_again(what, "see to who sends the calls, then start again")
 }
 
 fn unwritable(error: &io::Error) -> Failure {
     let what = format!("standard output cannot be written: {error}");
     let remedy =
         "the last answers are in answers.log alone; see to who takes them, then start again";
-    Failure::new(START_AGAIN, what, remedy)
+    start_again(what, remedy)
 }

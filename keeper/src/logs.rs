@@ -1,6 +1,6 @@
 //! The folder of a line: its lock, the open pair of logs, and the archive.
 
-use crate::failure::{of_file, of_flush, tell, Failure, LOOK_FIRST};
+use crate::failure::{look_first, of_file, of_flush, tell, Failure};
 use std::fs::{self, File, TryLockError};
 use std::io::{self, Write};
 use std::os::unix::fs::FileExt;
@@ -105,11 +105,7 @@ impl Folder {
                 "{} is missing, so what was answered is not known",
                 answers.display()
             );
-            return Err(Failure::new(
-                LOOK_FIRST,
-                what,
-                "bring it back, or open the line anew",
-            ));
+            return Err(look_first(what, "bring it back, or open the line anew"));
         }
         let logs = [Log::open(calls)?, Log::open(answers)?];
         of_file(&self.path, sync_folder(&self.path))?;
@@ -196,11 +192,7 @@ fn changing(folder: &Path) -> io::Result<Option<PathBuf>> {
 fn held(folder: &Path) -> Failure {
     let holder = fs::read_to_string(folder.join(HOLDER)).unwrap_or_default();
     let what = format!("{} is held by process {}", folder.display(), holder.trim());
-    Failure::new(
-        LOOK_FIRST,
-        what,
-        "that one keeps the line; a second is not started",
-    )
+    look_first(what, "that one keeps the line; a second is not started")
 }
 
 /// Makes a folder that is missing, and has its name on the disk.

@@ -13,7 +13,7 @@ mod program;
 mod replay;
 mod told;
 
-use failure::{tell, Failure, USAGE};
+use failure::{tell, wrong_arguments, Failure};
 use std::path::{Path, PathBuf};
 use std::process::ExitCode;
 
@@ -35,11 +35,10 @@ fn start() -> Result<(), Failure> {
         [option, folder] if option == Path::new("--check") => replay::check(folder),
         [option, folder] if option == Path::new("--status") => replay::status(folder),
         [folder] if !is_option(folder) && folder != Path::new("") => {
-            keep::keep(folder).map_err(Failure::of_keeper)
+            keep::keep(folder).inspect_err(|_| tell("this keeper answers nothing more"))
         }
-        _ => {
-            let remedy = "give FOLDER, --check FOLDER or --status FOLDER";
-            Err(Failure::new(USAGE, "wrong arguments", remedy))
-        }
+        _ => Err(wrong_arguments(
+            "give FOLDER, --check FOLDER or --status FOLDER",
+        )),
     }
 }

@@ -1,6 +1,6 @@
 //! The session program: calls in, answers out.
 
-use crate::failure::{shown, Failure, LOOK_FIRST, START_AGAIN};
+use crate::failure::{look_first, shown, start_again, Failure};
 use crate::lines::{count, each, ANSWER};
 use std::io::{self, Read, Write};
 use std::process::{Child, ChildStdin, ChildStdout, Command, Stdio};
@@ -22,7 +22,7 @@ impl Program {
         let command = command.stdin(Stdio::piped()).stdout(Stdio::piped());
         let mut child = command.spawn().map_err(|error| {
             let what = format!("the session program {}: {error}", path.display());
-            Failure::new(LOOK_FIRST, what, "build it with ./session --build")
+            look_first(what, "build it with ./session --build")
         })?;
         let input = child.stdin.take().expect("it is piped");
         let output = child.stdout.take().expect("it is piped");
@@ -41,7 +41,7 @@ impl Program {
         if let Some(line) = each(&answers).find(|line| line.len() != ANSWER) {
             let what = format!("the session program wrote {}, no answer", shown(line));
             let remedy = "look whether it is the right program";
-            return Err(Failure::new(LOOK_FIRST, what, remedy));
+            return Err(look_first(what, remedy));
         }
         Ok(answers)
     }
@@ -82,5 +82,5 @@ fn early(status: io::Result<std::process::ExitStatus>) -> Failure {
     let how = status.map_or_else(|error| error.to_string(), |status| status.to_string());
     let what = format!("the session program ended by itself: {how}");
     let remedy = "start again: calls that have no answer yet are answered then";
-    Failure::new(START_AGAIN, what, remedy)
+    start_again(what, remedy)
 }

@@ -1,6 +1,6 @@
 //! The two logs, side by side, and against what the program answers now.
 
-use crate::failure::{of_file, shown, tell, Failure, LOOK_FIRST, START_AGAIN};
+use crate::failure::{look_first, of_file, shown, start_again, tell, Failure};
 use crate::lines::{count, each, ANSWER, BLOCK, MOST_AT_ONCE};
 use crate::logs::{archived, is_changing, whole, ANSWERS, CALLS};
 use crate::program::Program;
@@ -55,7 +55,7 @@ impl Pair {
             thread::sleep(BETWEEN);
         }
         let what = format!("{}: a stop came while a new pair began", folder.display());
-        Err(Failure::new(START_AGAIN, what, "a start finishes that"))
+        Err(start_again(what, "a start finishes that"))
     }
 
     /// Some calls, and what is kept of their answers; after all calls, what else
@@ -128,7 +128,7 @@ impl Replayed {
         }
         let line = self.told.calls as usize - self.owed.len() / ANSWER;
         let what = format!("{ANSWERS} lacks answers that went out: it ends with line {line}");
-        Err(Failure::new(LOOK_FIRST, what, MEND))
+        Err(look_first(what, MEND))
     }
 
     fn do_not_fit(&self, call: &[u8], kept: &[u8], now: &[u8]) -> Failure {
@@ -140,7 +140,7 @@ impl Replayed {
   answer kept:  {kept}
   answer now:   {now}"
         );
-        Failure::new(LOOK_FIRST, what, MEND)
+        look_first(what, MEND)
     }
 }
 
@@ -190,5 +190,5 @@ its answer:  {}
 
 fn print(text: &str) -> Result<(), Failure> {
     let printed = io::stdout().write_all(text.as_bytes());
-    printed.map_err(|error| Failure::new(START_AGAIN, error, "see to standard output"))
+    printed.map_err(|error| start_again(error, "see to standard output"))
 }
