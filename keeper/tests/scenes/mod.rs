@@ -92,6 +92,7 @@ fn stopped_often(keep: &Path, name: &str, calls: &[u8], stops: u64) {
     let kept = Kept::new(keep, name);
     let calls = as_lines(calls);
     let mut torn: Vec<Vec<u8>> = Vec::new();
+    let mut programs_killed = 0;
     for stop in 0..stops {
         let [taken, before] = kept.told();
         let next = as_lines(&taken).len() - torn.len();
@@ -114,6 +115,7 @@ fn stopped_often(keep: &Path, name: &str, calls: &[u8], stops: u64) {
                 run.ended()
             }
         };
+        programs_killed += u64::from(run.told.contains("ended by itself: signal: 9"));
         let when = |what: &str| format!("stop {stop}: {what}");
         let [taken, there] = kept.told();
         let right = session::run(&taken);
@@ -136,6 +138,10 @@ fn stopped_often(keep: &Path, name: &str, calls: &[u8], stops: u64) {
         same(&still, &taken, &when("calls after a start"));
         same(&all, &right, &when("answers after a start"));
     }
+    assert!(
+        programs_killed > stops / 16,
+        "{programs_killed} programs killed"
+    );
     let is_call = |line: &Vec<u8>| !torn.contains(line);
     let count = as_lines(&kept.told()[0]).len() - torn.len();
     let last = kept.sent(&calls[count..].concat());
