@@ -69,7 +69,7 @@ fn entering(id: u64) -> Vec<u8> {
     line(2, [id, HEAD, 2345, 1, 0], 70000)
 }
 
-/// A line on which trains come and go, one at a time and two at a time.
+/// A line on which trains come and go, one after another.
 fn coming_and_going(trains: u64) -> Vec<u8> {
     let mut calls = line(1, OPENING, 0);
     for id in 1..=trains {
