@@ -10,7 +10,7 @@ use reference::generate::{list, Kind};
 use reference::random::Random;
 use reference::session;
 use std::fs::{self, File};
-use std::io::{Read, Write};
+use std::io::{self, Read, Write};
 use std::net::Shutdown;
 use std::os::fd::OwnedFd;
 use std::os::unix::fs::PermissionsExt;
@@ -256,6 +256,8 @@ fn small_file_system(keep: &Path) {
         let kept = Kept::new(keep, "small");
         fs::create_dir_all(&kept.folder).expect("a folder");
         if !mount("size=64k", &kept.folder) {
+            // Said, though the output of tests is kept back.
+            let _ = writeln!(io::stderr(), "no file system may be mounted here");
             return;
         }
         let calls = as_lines(&calls);
