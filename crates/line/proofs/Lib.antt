@@ -2,3 +2,4 @@ pub mod Steps
 pub mod Rules
 pub mod Rights
 pub mod Stays
+pub mod Previews

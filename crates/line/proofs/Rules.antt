@@ -69,39 +69,40 @@ accepted-made v c = refl
 -- ---- a refusal gives its number and zeros, and the whole table stays
 
 -- an answer that accepts, or a refusal that changes nothing
-abbrev Kept : Decision → Type 0
+abbrev pub Kept : Decision → Type 0
 Kept d = (numbersOf (d .answer) .number ≡ 0) ⊎ ((numbersOf (d .answer) ≡ record { number = numbersOf (d .answer) .number; first = 0; second = 0; third = 0 }) × (d .change ≡ Stay))
 
--- before an accepted opening and after one, whoever calls
-pub refusal-keeps : (opened : Bool) (t : Table) (r : Request) → let n = numbersOf (requested opened t r .answer) in (n .number ≡ 0 → ⊥)
-    → (n ≡ record { number = n .number; first = 0; second = 0; third = 0 }) × (requested opened t r .table ≡ t)
-unfolding decided decideOn
-refusal-keeps opened t r = keeps (decided opened t r) kept
-  where
-    on-table : (c : Call) → Kept (decideOn t (OnTable c))
-    on-table =
-        any-call t (λ c d. Kept d)
-        (record {
-          refuses = λ c r. inr (refl, refl);
-          enters = λ e k a. inl refl;
-          acts = λ id i a q passes. inl (accepted-0 (rulingAt t a i .gives));
-          leaves = λ id i q may. inl refl;
-        })
+module _ (opened : Bool) (t : Table) (r : Request) where
+  -- before an accepted opening and after one, whoever calls
+  pub decision-kept : Kept (decided opened t r)
+  unfolding decided decideOn
+  decision-kept =
+      by-test (outOfTurn opened (r .ask))
+      (λ e. rw e (inr (refl, refl)))
+      (λ e. by-test (mayAsk (r .caller) (r .ask)) (λ may. rw (e, may) (rightful (r .ask))) (λ lacks. rw (e, lacks) (inr (refl, refl))))
+    where
+      on-table : (c : Call) → Kept (decideOn t (OnTable c))
+      on-table =
+          any-call t (λ c d. Kept d)
+          (record {
+            refuses = λ c r. inr (refl, refl);
+            enters = λ e k a. inl refl;
+            acts = λ id i a q passes. inl (accepted-0 (rulingAt t a i .gives));
+            leaves = λ id i q may. inl refl;
+          })
 
-    rightful : (a : Ask) → Kept (decideOn t a)
-    rightful (Open o) = by-test (settingsInRange o) (λ e. rw (open-taken o e) (inl refl)) (λ e. rw (open-refused o e) (inr (refl, refl)))
-    rightful (OnTable c) = on-table c
+      rightful : (a : Ask) → Kept (decideOn t a)
+      rightful (Open o) = by-test (settingsInRange o) (λ e. rw (open-taken o e) (inl refl)) (λ e. rw (open-refused o e) (inr (refl, refl)))
+      rightful (OnTable c) = on-table c
 
-    kept : Kept (decided opened t r)
-    kept =
-        by-test (outOfTurn opened (r .ask))
-        (λ e. rw e (inr (refl, refl)))
-        (λ e. by-test (mayAsk (r .caller) (r .ask)) (λ may. rw (e, may) (rightful (r .ask))) (λ lacks. rw (e, lacks) (inr (refl, refl))))
-
-    keeps : (d : Decision) → Kept d → (numbersOf (d .answer) .number ≡ 0 → ⊥)
-        → (numbersOf (d .answer) ≡ record { number = numbersOf (d .answer) .number; first = 0; second = 0; third = 0 }) × (changed t (d .change) ≡ t)
-    keeps d (inl e) refuses = absurd (refuses e)
-    keeps d (inr (zeros, stays)) refuses = (zeros, ap (changed t) stays)
+  pub refusal-keeps : let n = numbersOf (requested opened t r .answer) in (n .number ≡ 0 → ⊥)
+      → (n ≡ record { number = n .number; first = 0; second = 0; third = 0 }) × (requested opened t r .table ≡ t)
+  refusal-keeps refuses = keeps (decided opened t r) decision-kept refuses
+    where
+      keeps : (d : Decision) → Kept d → (numbersOf (d .answer) .number ≡ 0 → ⊥)
+          → (numbersOf (d .answer) ≡ record { number = numbersOf (d .answer) .number; first = 0; second = 0; third = 0 }) × (changed t (d .change) ≡ t)
+      keeps d (inl e) refuses = absurd (refuses e)
+      keeps d (inr (zeros, stays)) refuses = (zeros, ap (changed t) stays)
 
 -- ---- out of turn
 

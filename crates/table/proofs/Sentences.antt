@@ -1,6 +1,7 @@
 -- Which train an id names, what a change leaves at each place, and the limit there, said a second time: in places, ids and sums.
 -- Assumes nothing.
 use Prim.Native.Nat.{ℕ, zero, suc, _+_, _-_, _*_, _≤_, _<_}
+use mathlib.Core.Bool.{false}
 use mathlib.Core.List.{List, [], _∷_}
 use mathlib.Core.Logic.{by-cases, _↔_}
 use mathlib.Core.Option.{Option, none, some}
@@ -12,6 +13,7 @@ use lib.ListN.{length, getD}
 use lib.Seq.{getD-set-same, getD-set-other, getD-drop}
 use borrow.Author.Tests.{eqb-true, eqb-false}
 use Rattle.logic.proofs.Tests.{by-test}
+use Rattle.motion.specs.declared.Order.the-variants.{Drive}
 use Rattle.calls.specs.declared.Opening.{Opening}
 use Rattle.train.specs.declared.Train.{Train}
 use Rattle.train.specs.Ranges.{WorksWith}
@@ -22,6 +24,24 @@ use Rattle.table.specs.declared.Table.{Table}
 use Rattle.table.specs.declared.Change.the-variants.{Put, Add, DropFirst, Anew}
 use Rattle.table.specs.Table.{blankTrain, onLine, placeIn, placeOf, trainAt, aheadOf, limitAt, changed}
 use Rattle.table.proofs.Trains.{Sized, line-length, train-on-line, line-without-first}
+
+-- ---- a place without a train
+
+-- document 02, (v): "zeros, drive with cap 0 as the order"
+abbrev pub zeroRecord : Train
+zeroRecord =
+    record {
+      id = 0;
+      length = 0;
+      figures = record { full = 0; growth = 0 };
+      motion = record { head = 0; speed = 0; level = 0 };
+      order = Drive 0;
+      authority = record { end = 0; start = 0; number = 0; length = 0 };
+      marks = record { held = false; penalty = false };
+    }
+
+pub blank-zeros : blankTrain ≡ zeroRecord
+blank-zeros = refl
 
 -- ---- in a list
 
