@@ -9,6 +9,7 @@ use native.Mathlib.Nat.{le-refl}
 use native.Mathlib.Omega.{arith}
 use lib.ListN.{length}
 use borrow.Author.Tests.{eq-eqb}
+use Rattle.logic.proofs.Tests.{by-test}
 use Rattle.brake.specs.declared.Figures.{Figures}
 use Rattle.brake.proofs.Consist.{given-sound}
 use Rattle.calls.specs.declared.Opening.{Opening}
@@ -23,6 +24,7 @@ use Rattle.calls.specs.declared.Answer.{Answer}
 use Rattle.calls.specs.declared.Answer.the-variants.{Accepted, Refused}
 use Rattle.calls.specs.declared.Values.{Values}
 use Rattle.calls.specs.declared.Values.the-variants.{Entered, Zeros}
+use Rattle.calls.specs.declared.Numbers.{Numbers}
 use Rattle.calls.specs.Answers.{numbersOf}
 use Rattle.calls.specs.Checks.{firstOf}
 use Rattle.calls.proofs.Answers.{accepted-0, refusal-not-0}
@@ -39,8 +41,9 @@ use Rattle.table.proofs.Trains.{Sized, sized-empty, line-with, sized-with, line
 use Rattle.line.specs.declared.Decision.{Decision}
 use Rattle.line.specs.Decide.{refused, accepted, rulingAt, decided}
 use Rattle.line.specs.Step.{outcome, carriedOut, openStep}
+use Rattle.line.specs.Preview.{previewed}
 use Rattle.line.proofs.Steps.{Admitted, any-call, any-request, open-made}
-use Rattle.safety.specs.History.{Deed, made, done, Event, history, after, isAccepted, Told, toldEntering, Line, opened, withTrains, toldCall, toldBy, told}
+use Rattle.safety.specs.History.{Deed, made, tried, done, Event, history, after, isAccepted, Told, toldEntering, Line, opened, withTrains, toldCall, toldBy, told}
 use Rattle.safety.specs.Claim.{recordOf}
 use Rattle.safety.proofs.Train.{guarded-entering}
 use Rattle.safety.proofs.Acts.{Steady}
@@ -59,6 +62,11 @@ module _ (l : Line) (r : Request) where
   told-accepted : (c : Call) (v : Values) → r .ask ≡ OnTable c → toldBy l (event r (Accepted v)) ≡ toldCall l (numbersOf (Accepted v)) (OnTable c)
   unfolding toldBy isAccepted
   told-accepted c v asks = rw (eq-eqb _ 0 (accepted-0 v), asks)
+
+-- document 02, (v): a preview counts nowhere, whatever it is answered
+pub tried-tells : (l : Line) (r : Request) (n : Numbers) → toldBy l (record { deed = tried r; answer = n }) ≡ l
+unfolding toldBy
+tried-tells l r n = by-test (isAccepted (record { deed = tried r; answer = n })) (λ e. rw e) (λ e. rw e)
 
 module _ (o : Opening) (l : Line) (t : Table) (A : Agrees o l t) where
   abbrev xs : List Told
@@ -138,6 +146,7 @@ module _ (o : Opening) (l : Line) (t : Table) (A : Agrees o l t) where
 
   next-deed : (d : Deed) → Agrees o (toldBy l (record { deed = d; answer = numbersOf (done t d .answer) })) (done t d .table)
   next-deed (made r) = next-request r
+  next-deed (tried r) = rw (tried-tells l r (numbersOf (previewed t r .answer))) A
 
 -- ---- every list of deeds
 

@@ -15,7 +15,7 @@ use Rattle.table.proofs.Spare.{Tidy, tidy-anew, emptied}
 use Rattle.line.specs.Step.{outcome, requested, openStep}
 use Rattle.line.proofs.Steps.{open-made}
 use Rattle.line.proofs.Stays.{tidy-request, settings-request}
-use Rattle.safety.specs.History.{Deed, made, history, after, told}
+use Rattle.safety.specs.History.{Deed, made, tried, history, after, told}
 use Rattle.safety.proofs.Demand3.{demand-3}
 
 -- what every deed keeps
@@ -24,6 +24,7 @@ unfolding after
 tidy-after [] t tidy = (tidy, refl)
 tidy-after (made r ∷ ds) t tidy =
     let (now, same) = tidy-after ds (requested true t r .table) (tidy-request t tidy r) in (now, same ∙ settings-request t r)
+tidy-after (tried r ∷ ds) t tidy = tidy-after ds t tidy
 
 -- on the table that an accepted opening made, whatever is called, by whomever
 module _ (o : Opening) (t : Table) (opened : openStep o ≡ outcome (Accepted Zeros) t) (ds : List Deed) where

@@ -10,5 +10,6 @@ pub mod Bounds
 pub mod Demand2
 pub mod Repeats
 pub mod Emptied
+pub mod Previews
 pub mod Refuted
 pub mod Worked

@@ -37,7 +37,7 @@ use Rattle.line.specs.Step.{outcome, requested, openStep}
 use Rattle.line.proofs.Steps.{step}
 use Rattle.line.proofs.Rules.{own-step}
 use Rattle.line.proofs.Stays.{Holds, Keeps, still-holds, sized-step, sized-request, works-step, works-request, own-accepted}
-use Rattle.safety.specs.History.{Deed, made, Event, history, after, isAccepted}
+use Rattle.safety.specs.History.{Deed, made, tried, Event, history, after, isAccepted}
 use Rattle.safety.proofs.Calls.{agrees}
 
 -- ---- what stays true over a list of deeds
@@ -45,6 +45,7 @@ use Rattle.safety.proofs.Calls.{agrees}
 -- a deed with this answer number keeps it
 abbrev KeepsBy : (Train → Type 0) → ℕ → ℕ → Deed → Type 0
 KeepsBy Q id n (made r) = Keeps Q id n (r .ask)
+KeepsBy Q id n (tried r) = Unit {0}
 
 -- an event's deed keeps it where a request, if it is one, does
 kept-by : (Q : Train → Type 0) (id : ℕ) (e : Event) → ((r : Request) → e .deed ≡ made r → Keeps Q id (e .answer .number) (r .ask))
@@ -53,6 +54,7 @@ kept-by Q id e keeps = go (e .deed) refl
   where
     go : (d : Deed) → e .deed ≡ d → KeepsBy Q id (e .answer .number) d
     go (made r) is = keeps r is
+    go (tried r) is = tt
 
 -- each of them keeps it
 abbrev KeepsAll : (Train → Type 0) → ℕ → List Event → Type 0
@@ -64,6 +66,7 @@ unfolding history after
 lasts Q id [] t sized h keeps = h
 lasts Q id (made r ∷ ds) t sized h keeps =
     lasts Q id ds (requested true t r .table) (sized-request t sized r) (still-holds Q id t sized h r (keeps .0)) (keeps .1)
+lasts Q id (tried r ∷ ds) t sized h keeps = lasts Q id ds t sized h (keeps .1)
 
 -- ---- the present stay
 
@@ -160,6 +163,7 @@ works-after : (o : Opening) (ds : List Deed) (t : Table) → WorksWith o (t .set
 unfolding after
 works-after o [] t works = works
 works-after o (made r ∷ ds) t works = works-after o ds (requested true t r .table) (works-request o t works r)
+works-after o (tried r ∷ ds) t works = works-after o ds t works
 
 -- ---- over every list of deeds
 

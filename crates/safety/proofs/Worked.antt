@@ -1,4 +1,4 @@
--- The words of the worked list are what the definitions give: computed.
+-- The words of the worked lists, and what previews are answered, are what the definitions give: computed.
 -- Assumes nothing.
 use mathlib.Core.Path.{_≡_, refl}
 use Rattle.logic.specs.Rounding.{ceilDiv}
@@ -17,8 +17,14 @@ use Rattle.table.specs.Table.{placeIn, placeOf, aheadOf}
 use Rattle.line.specs.Decide.{openDecision, enterDecision, actDecision, takeOffDecision, decideOn, decided}
 use Rattle.line.specs.Step.{openStep}
 use Rattle.safety.specs.History.{history, isAccepted, toldAct, without, toldCall, toldBy, told, rearOf}
-use Rattle.safety.specs.Worked.{sessionLine, wordsAfter, workedDeeds, workedWords}
+use Rattle.safety.specs.Worked.{sessionLine, workedDeeds, triedBeside, triedDeeds, triedAnswers, answersTo, wordsAfter, triedWords, workedWords}
 
-pub worked : wordsAfter sessionLine workedDeeds ≡ workedWords
+pub worked :
+    (wordsAfter sessionLine workedDeeds ≡ workedWords)
+    -- the same with previews among its deeds
+    × (wordsAfter sessionLine (triedBeside workedDeeds) ≡ workedWords)
+    -- what previews are answered, and that they change nothing
+    × (answersTo sessionLine triedDeeds ≡ triedAnswers)
+    × (wordsAfter sessionLine triedDeeds ≡ triedWords)
 unfolding ceilDiv between carOf fullBrake applicationTime applicationCycles sheetEntry entryFor brakeCycles figuresWith figuresBy figuresOf brakeTravel brakeSpeed nextLevel driveTravel driveSpeed stands brakedCycle firstCycles enoughCycles brakedRun totalTravel stoppingDistance stoppingPlace capFits greatest orderFor inBounds firstOf mayAsk settingsInRange requestInRange stepsOf limitBehind allowed moves mustBrake orderAfter isPenalty reported computable reportAllowed isRepeat extended isOld callBackAllowed mayLeave placeIn placeOf aheadOf openDecision enterDecision actDecision takeOffDecision decideOn decided openStep history isAccepted toldAct without toldCall toldBy told rearOf
-worked = refl
+worked = (refl, refl, refl, refl)

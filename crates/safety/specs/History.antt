@@ -24,15 +24,19 @@ use Rattle.train.specs.declared.Authority.{Authority}
 use Rattle.train.specs.Track.{stepsOf}
 use Rattle.table.specs.declared.Table.{Table}
 use Rattle.line.specs.declared.Outcome.{Outcome}
-use Rattle.line.specs.Step.{requested}
+use Rattle.line.specs.Step.{outcome, requested}
+use Rattle.line.specs.Preview.{previewed}
 
--- what may stand in a list on an opened line: a request that is made
+-- what may stand in a list on an opened line: a request that is made, or one that a preview tries
 pub data Deed : Type 0 where
   made : Request → Deed
+  tried : Request → Deed
 
 -- its answer, and the table after it
 abbrev pub done : Table → Deed → Outcome
 done t (made r) = requested true t r
+-- document 02, (v): the real table stays untouched
+done t (tried r) = outcome (previewed t r .answer) t
 
 -- a deed with its answer: the number and the three values
 pub record Event : Type 0 where
@@ -166,6 +170,8 @@ toldCall l n (OnTable (TakeOff id)) = withTrains l (without id (l .trains))
 -- after an accepted deed with its answer
 abbrev pub toldDeed : Line → Numbers → Deed → Line
 toldDeed l n (made r) = toldCall l n (r .ask)
+-- a preview is no call of the list's, whatever it is answered
+toldDeed l n (tried r) = l
 
 -- after an event; a refused deed tells nothing
 unfoldable pub toldBy : Line → Event → Line

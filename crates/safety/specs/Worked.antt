@@ -9,10 +9,11 @@ use Rattle.calls.specs.declared.Act.the-variants.{Report, Extend, Hold, Lift}
 use Rattle.calls.specs.declared.Call.the-variants.{Enter, Own, TakeOff}
 use Rattle.calls.specs.declared.Ask.the-variants.{Open, OnTable}
 use Rattle.calls.specs.declared.Request.{Request}
+use Rattle.calls.specs.declared.Numbers.{Numbers}
 use Rattle.calls.specs.Answers.{numbers}
 use Rattle.calls.specs.Requests.{request}
 use Rattle.line.specs.Step.{openStep}
-use Rattle.safety.specs.History.{Deed, made, Event, history, Told, told, rearOf}
+use Rattle.safety.specs.History.{Deed, made, tried, Event, history, Told, told, rearOf}
 use Rattle.safety.specs.Claim.{countedReports}
 
 -- the yard, 70,000: enter, take off
@@ -77,6 +78,59 @@ workedDeeds =
     ∷ made (report 9 1000003726 0)
     ∷ []
 
+-- each of them tried by a preview before it is made, and once more afterwards
+abbrev pub triedBeside : List Deed → List Deed
+triedBeside [] = []
+triedBeside (made r ∷ ds) = tried r ∷ made r ∷ tried r ∷ triedBeside ds
+triedBeside (tried r ∷ ds) = tried r ∷ triedBeside ds
+
+-- Previews on the same line, and what each is answered: train 7 enters in none but the third, and is held in none but the last. An opening is
+-- tried as the first one, with settings in range, with a ceiling of 0, and by the yard.
+abbrev pub triedDeeds : List Deed
+triedDeeds =
+    tried (enter 7 14295120000 2345 1 0)
+    ∷ tried (report 7 14295120000 0)
+    ∷ made (enter 7 14295120000 2345 1 0)
+    ∷ tried (enter 7 14295120000 2345 1 0)
+    ∷ tried (takeOff 7)
+    ∷ tried (takeOff 7)
+    ∷ tried (report 7 14295120000 0)
+    ∷ tried (report 7 14295120001 0)
+    ∷ tried (extend 7 1 20000)
+    ∷ tried (extend 7 1 20000)
+    ∷ tried (request 7 (OnTable (Own 7 Hold)))
+    ∷ tried (request 0 (OnTable (Own 7 (Report (record { head = 14295120000; speed = 0 })))))
+    ∷ tried (request 0 (Open sessionLine))
+    ∷ tried (request 0 (Open (record { end = 200000000000; safety = 8000000000; ceiling = 0; traction = 3726 })))
+    ∷ tried (request 70000 (Open sessionLine))
+    ∷ tried (hold 7)
+    ∷ made (hold 7)
+    ∷ []
+
+abbrev pub triedAnswers : List Numbers
+triedAnswers =
+    numbers 0 133303 263 14295120000
+    ∷ numbers 8 0 0 0
+    ∷ numbers 0 133303 263 14295120000
+    ∷ numbers 5 0 0 0
+    ∷ numbers 0 0 0 0
+    ∷ numbers 0 0 0 0
+    ∷ numbers 0 1 0 14295120000
+    ∷ numbers 9 0 0 0
+    ∷ numbers 0 14295140000 0 0
+    ∷ numbers 0 14295140000 0 0
+    ∷ numbers 16 0 0 0
+    ∷ numbers 16 0 0 0
+    ∷ numbers 0 0 0 0
+    ∷ numbers 3 0 0 0
+    ∷ numbers 16 0 0 0
+    ∷ numbers 0 0 0 0
+    ∷ numbers 0 0 0 0
+    ∷ []
+
+abbrev pub answersTo : Opening → List Deed → List Numbers
+answersTo o ds = map (λ (e : Event). e .answer) (history (openStep o .table) ds)
+
 pub record Words : Type 0 where
   pub id : ℕ
   pub start : ℕ
@@ -102,6 +156,11 @@ wordsOf x =
 
 abbrev pub wordsAfter : Opening → List Deed → List Words
 wordsAfter o ds = map wordsOf (told o (history (openStep o .table) ds) .trains)
+
+-- a train that has entered and is held
+abbrev pub triedWords : List Words
+triedWords =
+    record { id = 7; start = 0; head = 14295120000; speed = 0; rear = 0; end = 14295120000; held = some 0; braked = none } ∷ []
 
 abbrev pub workedWords : List Words
 workedWords =
