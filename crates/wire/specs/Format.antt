@@ -77,14 +77,17 @@ unfoldable pub numbersIn : List ℕ → List ℕ → Option (List ℕ)
 numbersIn [] line = some []
 numbersIn (w ∷ ws) line = withNumber (fieldOf (take w line)) (numbersIn ws (drop w line))
 
--- what the numbers of a line ask, if it has them
+-- the numbers of an input line, given without its line feed, if it has them
+abbrev pub rowIn : List ℕ → Option (List ℕ)
+rowIn line = cond (eqb (length line) callWidth) (numbersIn callColumns line) none
+
+-- and what they ask
 abbrev pub requestBy : Option (List ℕ) → RequestRead
 requestBy none = Unreadable
 requestBy (some ns) = requestOf ns
 
--- an input line without its line feed
 unfoldable pub lineRead : List ℕ → RequestRead
-lineRead line = cond (eqb (length line) callWidth) (requestBy (numbersIn callColumns line)) Unreadable
+lineRead line = requestBy (rowIn line)
 
 -- ---- writing
 

@@ -4,13 +4,24 @@ use native.Mathlib.Nat.{add-sub-cancel-left}
 use native.Mathlib.Numerals.{add-one}
 use native.Mathlib.Omega.{arith}
 use mathlib.Core.Path.{_≡_, refl, sym, ap}
+use mathlib.Core.Bool.{true, false, not}
 use mathlib.Core.Option.{Option, none, some, Option·map}
 use mathlib.Core.List.{List, [], _∷_, _++_, append-assoc}
 use lib.ListN.{length, take, drop, getD, set, getD-replicate}
 use lib.Seq.{drop-cons, drop-drop, take-suc-set}
+use borrow.Author.Tests.{not-true, not-false}
 use Rattle.wire.specs.declared.Field.{Field}
 use Rattle.wire.specs.declared.Field.the-variants.{Number}
 use Rattle.wire.specs.Format.{total, callColumns, fieldOf, withNumber, numbersIn}
+use Rattle.wire_code.specs.declared.Row.{Row}
+use Rattle.wire_code.specs.Rows.{rowNumbers}
+
+-- a row of a line that is not readable, and of one that is
+pub row-unread : (r : Row) → not (r .readable) ≡ true → rowNumbers r ≡ none
+row-unread r e = rw (not-true (r .readable) e) refl
+
+pub row-read : (r : Row) → not (r .readable) ≡ false → rowNumbers r ≡ some (r .numbers)
+row-read r e = rw (not-false (r .readable) e) refl
 
 -- no field has more columns than a number
 pub narrow : (i : ℕ) → i < 7 → getD callColumns i 0 ≤ 14

@@ -3,7 +3,7 @@ ghost use mathlib.Core.Path.{_≡_};
 ghost use Prim.Native.Nat.{_+_, _/_, _≤_, _<_};
 ghost use lib.ListN.{length};
 ghost use lib.Seq.{paste};
-ghost use Rattle.wire.specs.Format.{digit as digitAfter, column as columnAfter, soFar, fieldOf, callColumns, callWidth, numbersIn, lineRead, digitOf, text, roomAt, rendered};
+ghost use Rattle.wire.specs.Format.{digit as digitAfter, column as columnAfter, soFar, fieldOf, callColumns, callWidth, numbersIn, rowIn, lineRead, digitOf, text, roomAt, rendered};
 ghost use Rattle.wire_code.specs.Rows.{rowNumbers};
 ghost use Rattle.wire_code.specs.Columns.{Blanked};
 use calls::Numbers;
@@ -118,14 +118,24 @@ fn numbers_in(line: &[u8]) -> Row
     }
 }
 
+// The numbers of an input line, given without its line feed.
+pub fn read_row(line: &[u8]) -> Row
+    ensures { λ r. ⌜ rowNumbers r ≡ rowIn (now (line .entry)) ⌝ }
+{
+    if line.len() != CALL_WIDTH {
+        return Row {
+            readable: false,
+            numbers: [0u64; ROW],
+        };
+    }
+    numbers_in(line)
+}
+
 // What an input line asks, given without its line feed.
 pub fn read_line(line: &[u8]) -> RequestRead
     ensures { λ r. ⌜ r ≡ lineRead (now (line .entry)) ⌝ }
 {
-    if line.len() != CALL_WIDTH {
-        return RequestRead::Unreadable;
-    }
-    let row = numbers_in(line);
+    let row = read_row(line);
     let n = row.numbers;
     if !row.readable {
         return RequestRead::Unreadable;
@@ -156,7 +166,7 @@ fn blank(out: &mut [u8], at: usize, width: usize)
 }
 
 // n right-justified in so many columns of out, from place `at` on: spaces in all of them, and then its digits from the right.
-fn put(out: &mut [u8], at: usize, width: usize, n: u64)
+pub fn put(out: &mut [u8], at: usize, width: usize, n: u64)
     requires { ⌜ (0 < width) × (at + width ≤ length (now out)) ⌝ }
     ensures { λ _. ⌜ now (out .exit) ≡ paste (now (out .entry)) at (text width n) width ⌝ }
 {
