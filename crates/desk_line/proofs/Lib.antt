@@ -1,0 +1,2 @@
+pub mod Sentences
+pub mod Safe
