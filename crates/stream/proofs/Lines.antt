@@ -10,7 +10,7 @@ use lib.Seq.{take-all, take-take, length-take-le, drop-cons}
 use native.Mathlib.Numerals.{add-one}
 use borrow.Author.Tests.{eq-eqb, ne-eqb, eqb-true, eqb-false, leb-true, leb-false}
 use Rattle.logic.proofs.Tests.{by-test}
-use Rattle.wire.specs.Format.{callWidth, lineRead}
+use Rattle.wire.specs.Format.{callWidth, rowIn, requestBy, lineRead}
 use Rattle.calls.specs.declared.RequestRead.{RequestRead}
 use Rattle.calls.specs.declared.RequestRead.the-variants.{Read, Unreadable}
 use Rattle.calls.specs.Answers.{numbersOf}
@@ -42,17 +42,20 @@ line-fits s size Unreadable d e = rw e tt
 
 -- ---- of a line that is too long the kept bytes are enough
 
-read-long : (l : List ℕ) → keptWidth < length l → lineRead (kept l) ≡ lineRead l
-unfolding lineRead
-read-long l h =
+row-long : (l : List ℕ) → keptWidth < length l → rowIn (kept l) ≡ rowIn l
+row-long l h =
     let e : (length (kept l) ≡ callWidth → ⊥) = λ p. omega (arith, length-take keptWidth l) in
     simp (ne-eqb (length (kept l)) callWidth e, ne-eqb (length l) callWidth (λ p. omega arith))
 
-pub read-kept : (l : List ℕ) → lineRead (kept l) ≡ lineRead l
-read-kept l =
+pub row-kept : (l : List ℕ) → rowIn (kept l) ≡ rowIn l
+row-kept l =
     by-test (leb (length l) keptWidth)
-    (λ e. ap lineRead (take-all keptWidth l (leb-true _ _ e)))
-    (λ e. read-long l (leb-false _ _ e))
+    (λ e. ap rowIn (take-all keptWidth l (leb-true _ _ e)))
+    (λ e. row-long l (leb-false _ _ e))
+
+pub read-kept : (l : List ℕ) → lineRead (kept l) ≡ lineRead l
+unfolding lineRead
+read-kept l = ap requestBy (row-kept l)
 
 pub kept-append : (n : ℕ) (l r : List ℕ) → take n (take n l ++ r) ≡ take n (l ++ r)
 kept-append zero l r = refl
@@ -63,7 +66,7 @@ kept-append (suc n) (x ∷ l) r = ap (λ (m : List ℕ). x ∷ m) (kept-append n
 
 module _ (s : Session) (g w : List ℕ) (b : ℕ) (bs : List ℕ) where
   -- a byte of a line
-  standing-byte : (b ≡ 10 → ⊥) → standing s g w (b ∷ bs) ≡ standing s (g ++ (b ∷ [])) w bs
+  pub standing-byte : (b ≡ 10 → ⊥) → standing s g w (b ∷ bs) ≡ standing s (g ++ (b ∷ [])) w bs
   unfolding lines rest
   standing-byte h = simp (ne-eqb b 10 h)
 
@@ -115,10 +118,6 @@ standing-cut s g w (c ∷ a) b =
 module _ (s : Session) (g w piece : List ℕ) (i : ℕ) (more : i < length piece) where
   next : standing s g w (drop i piece) ≡ standing s g w (getD piece i 0 ∷ drop (i + 1) piece)
   next = ap (standing s g w) (rw (add-one i) (drop-cons piece i 0 more))
-
-  -- the byte at place i is of the line that has begun
-  pub byte-taken : (getD piece i 0 ≡ 10 → ⊥) → standing s g w (drop i piece) ≡ standing s (g ++ (getD piece i 0 ∷ [])) w (drop (i + 1) piece)
-  byte-taken n = next ∙ standing-byte s g w (getD piece i 0) (drop (i + 1) piece) n
 
   -- the line feed at place i: the line is answered
   pub line-taken : (d : Decision) (v : List ℕ) → getD piece i 0 ≡ 10 → d ≡ lineDecision s (lineRead g) → v ≡ w ++ outputLine (numbersOf (d .answer))

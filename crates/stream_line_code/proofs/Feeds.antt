@@ -9,8 +9,6 @@ use mathlib.Core.Logic.{by-cases}
 use mathlib.Core.List.{List, [], _∷_, _++_, append-assoc, append-nil}
 use lib.ListN.{length, take, drop, getD}
 use lib.Seq.{drop-cons}
-use Rattle.stream.specs.declared.Session.{Session}
-use Rattle.stream.proofs.Lines.{standing, byte-taken}
 use Rattle.stream_line_code.specs.Feeds.{NoFeed, LineEnd}
 
 -- ---- bytes without a line feed
@@ -33,25 +31,26 @@ module _ (l : List ℕ) (a : ℕ) where
 
 -- ---- they are of the line that has begun
 
--- n bytes from place i on
-part-of : (n : ℕ) (s : Session) (g w piece : List ℕ) (i : ℕ) → i + n ≤ length piece → NoFeed piece i (i + n)
-    → standing s g w (drop i piece) ≡ standing s (g ++ take n (drop i piece)) w (drop (i + n) piece)
-part-of zero s g w piece i within none = rw (append-nil g, add-zero i) refl
-part-of (suc n) s g w piece i within none =
-    let b = getD piece i 0 in
-    let more : i < length piece = omega arith in
-    let here : drop i piece ≡ b ∷ drop (i + 1) piece = rw (add-one i) (drop-cons piece i 0 more) in
-    let on : i + 1 + n ≡ i + suc n = omega arith in
-    byte-taken s g w piece i more (none i (omega arith) (omega arith))
-    ∙ part-of n s (g ++ (b ∷ [])) w piece (i + 1) (omega arith) (λ k h m. none k (omega arith) (omega arith))
-    ∙ ap (λ (l : List ℕ). standing s l w (drop (i + 1 + n) piece)) (append-assoc g (b ∷ []) (take n (drop (i + 1) piece)))
-    ∙ ap (λ (l : List ℕ). standing s (g ++ take (suc n) l) w (drop (i + 1 + n) piece)) (sym here)
-    ∙ ap (λ (k : ℕ). standing s (g ++ take (suc n) (drop i piece)) w (drop k piece)) on
+-- F speaks of a line that has begun and of the bytes to come: a byte that is no line feed is one more of that line
+module _ {A : Type 0} (F : List ℕ → List ℕ → A) (byte : (g : List ℕ) (b : ℕ) (bs : List ℕ) → (b ≡ 10 → ⊥) → F g (b ∷ bs) ≡ F (g ++ (b ∷ [])) bs) (piece : List ℕ) where
+  -- n bytes from place i on
+  part-of : (n : ℕ) (g : List ℕ) (i : ℕ) → i + n ≤ length piece → NoFeed piece i (i + n) → F g (drop i piece) ≡ F (g ++ take n (drop i piece)) (drop (i + n) piece)
+  part-of zero g i within none = rw (append-nil g, add-zero i) refl
+  part-of (suc n) g i within none =
+      let b = getD piece i 0 in
+      let more : i < length piece = omega arith in
+      let here : drop i piece ≡ b ∷ drop (i + 1) piece = rw (add-one i) (drop-cons piece i 0 more) in
+      let on : i + 1 + n ≡ i + suc n = omega arith in
+      ap (F g) here
+      ∙ byte g b (drop (i + 1) piece) (none i (omega arith) (omega arith))
+      ∙ part-of n (g ++ (b ∷ [])) (i + 1) (omega arith) (λ k h m. none k (omega arith) (omega arith))
+      ∙ ap (λ (l : List ℕ). F l (drop (i + 1 + n) piece)) (append-assoc g (b ∷ []) (take n (drop (i + 1) piece)))
+      ∙ ap (λ (l : List ℕ). F (g ++ take (suc n) l) (drop (i + 1 + n) piece)) (sym here)
+      ∙ ap (λ (k : ℕ). F (g ++ take (suc n) (drop i piece)) (drop k piece)) on
 
--- all up to the end of the line
-pub part-taken : (s : Session) (g w piece : List ℕ) (i e : ℕ) → LineEnd piece i e
-    → standing s g w (drop i piece) ≡ standing s (g ++ take (e - i) (drop i piece)) w (drop e piece)
-part-taken s g w piece i e end =
-    let same : i + (e - i) ≡ e = omega (arith, end .from) in
-    part-of (e - i) s g w piece i (omega (arith, end .from, end .within)) (λ k h m. end .none k h (omega (arith, end .from)))
-    ∙ ap (λ (k : ℕ). standing s (g ++ take (e - i) (drop i piece)) w (drop k piece)) same
+  -- all up to the end of the line
+  pub part-taken : (g : List ℕ) (i e : ℕ) → LineEnd piece i e → F g (drop i piece) ≡ F (g ++ take (e - i) (drop i piece)) (drop e piece)
+  part-taken g i e end =
+      let same : i + (e - i) ≡ e = omega (arith, end .from) in
+      part-of (e - i) g i (omega (arith, end .from, end .within)) (λ k h m. end .none k h (omega (arith, end .from)))
+      ∙ ap (λ (k : ℕ). F (g ++ take (e - i) (drop i piece)) (drop k piece)) same

@@ -15,7 +15,7 @@ use Rattle.stream.specs.declared.Stream.{Stream}
 use Rattle.stream.specs.Session.{lineDecision, replied}
 use Rattle.stream.specs.Input.{outputLine, begun, keptWidth, kept, outputWidth, Taken}
 use Rattle.stream.proofs.Bytes.{output-all, output-front, output-back, same-further}
-use Rattle.stream.proofs.Lines.{Standing, standing, standing-kept, standing-end, line-taken, piece-taken}
+use Rattle.stream.proofs.Lines.{Standing, standing, standing-byte, standing-kept, standing-end, line-taken, piece-taken}
 use Rattle.stream_line_code.specs.Feeds.{LineEnd}
 use Rattle.stream_line_code.proofs.Feeds.{part-taken}
 
@@ -61,7 +61,7 @@ module _ (piece before : List ℕ) (first : Standing) (out : List ℕ) (s : Sess
           others = ap (drop (at + outputWidth)) written ∙ output-back out at a line-room ∙ same-further outputWidth at out before (v .others);
           stands =
               v .stands
-              ∙ part-taken s (take count bytes) (take at out) piece i e (v .end)
+              ∙ part-taken (λ g. standing s g (take at out)) (λ g. standing-byte s g (take at out)) piece (take count bytes) i e (v .end)
               ∙ line-taken s line (take at out) piece e more d _ (v .end .feed more) decided (ap (take (at + outputWidth)) written ∙ output-front out at a line-room)
               ∙ ap (λ (q : Session). standing q [] (take (at + outputWidth) now) (drop (e + 1) piece)) (sym after);
         }
@@ -78,7 +78,7 @@ module _ (piece before : List ℕ) (first : Standing) (out : List ℕ) (s : Sess
       sym (standing-kept (x .session) (begun x) [] piece)
       ∙ sym began
       ∙ v .stands
-      ∙ part-taken s (take count bytes) w piece i e (v .end)
+      ∙ part-taken (λ g. standing s g w) (λ g. standing-byte s g w) piece (take count bytes) i e (v .end)
       ∙ ap (standing s line w) none
       ∙ standing-end s line w
       ∙ ap (λ (l : List ℕ). record { session = s; begins = l; written = w }) begins in
