@@ -9,7 +9,9 @@ use Rattle.calls.specs.Answers.{numbersOf}
 use Rattle.train.specs.declared.Train.{Train}
 use Rattle.line.specs.declared.Shown.{Shown}
 use Rattle.wire.specs.Format.{total, answerWidth, textOf, answerText}
+use Rattle.stream.specs.declared.Session.{Session}
 use Rattle.stream.specs.Input.{over}
+use Rattle.desk_line.specs.Desk.{deskAnswered}
 
 -- a mark as a number
 abbrev pub markNumber : Bool → ℕ
@@ -43,7 +45,14 @@ recordColumns = replicate 15 14
 unfoldable pub deskLine : Shown → List ℕ
 deskLine w = (answerText (numbersOf (w .answer)) ++ textOf recordColumns (recordNumbers (w .train))) ++ (10 ∷ [])
 
--- so it has 255 bytes
+-- for each input line one output line
+unfoldable pub deskAnswers : Session → List (List ℕ) → List ℕ
+deskAnswers s [] = []
+deskAnswers s (l ∷ ls) = deskLine (deskAnswered s l .shown) ++ deskAnswers (deskAnswered s l .session) ls
+
+-- ---- in a buffer
+
+-- so a line has 255 bytes
 abbrev pub deskWidth : ℕ
 deskWidth = answerWidth + total recordColumns + 1
 

@@ -6,7 +6,7 @@ use native.Mathlib.Omega.{arith}
 use mathlib.Core.Path.{_≡_, refl, sym, ap, _∙_}
 use mathlib.Core.List.{List, [], _∷_, _++_, append-assoc, append-nil}
 use lib.ListN.{length, take, drop, getD, set, replicate, length-append, length-drop}
-use lib.Seq.{paste, paste-suc, take-paste, drop-paste, take-all, take-at, drop-drop, getD-at}
+use lib.Seq.{paste, paste-suc, take-paste, drop-paste, take-all, take-at, drop-drop, drop-length, getD-at}
 use borrow.Author.Tests.{le-leb}
 use Rattle.calls.specs.declared.Numbers.{Numbers}
 use Rattle.calls.specs.Answers.{numbersOf}
@@ -15,7 +15,7 @@ use Rattle.line.specs.declared.Shown.{Shown}
 use Rattle.wire.specs.Format.{text, textOf, answerText, rendered}
 use Rattle.wire.proofs.RoundTrip.{text-long, answer-long}
 use Rattle.stream.specs.Input.{over}
-use Rattle.desk_line.specs.Columns.{recordNumbers, recordColumns, deskLine, deskWidth}
+use Rattle.desk_line.specs.Columns.{recordNumbers, recordColumns, deskLine, deskWidth, deskWritten}
 
 -- the text t after s
 paste-next : (d s t : List ℕ) (at n m : ℕ) → length s ≡ n → length t ≡ m → at + n + m ≤ length d
@@ -87,12 +87,21 @@ line-put out l m ns w n room answers shows first rest =
     ∙ ap (λ (k : Numbers). over ((answerText k ++ x) ++ (10 ∷ [])) out) answers
     ∙ ap (λ (k : List ℕ). over ((answerText (numbersOf (w .answer)) ++ textOf recordColumns k) ++ (10 ∷ [])) out) shows
 
--- and leave the buffer as long as it was
-pub put-long : (out : List ℕ) (w : Shown) → deskWidth ≤ length out → length (over (deskLine w) out) ≡ length out
+-- an output line has 255 bytes
+pub line-long : (w : Shown) → length (deskLine w) ≡ deskWidth
 unfolding deskLine
-put-long out w room =
+line-long w =
     let a = answerText (numbersOf (w .answer)) in
     let x = textOf recordColumns (recordNumbers (w .train)) in
-    let l = (a ++ x) ++ (10 ∷ []) in
-    let size : length l ≡ 255 = omega (arith, length-append (a ++ x) (10 ∷ []), length-append a x, answer-long (numbersOf (w .answer)), record-long (w .train)) in
-    omega (arith, length-append l (drop (length l) out), length-drop (length l) out)
+    omega (arith, length-append (a ++ x) (10 ∷ []), length-append a x, answer-long (numbersOf (w .answer)), record-long (w .train))
+
+-- and leaves the buffer as long as it was
+pub put-long : (out : List ℕ) (w : Shown) → deskWidth ≤ length out → length (over (deskLine w) out) ≡ length out
+put-long out w room = omega (arith, line-long w, length-append (deskLine w) (drop (length (deskLine w)) out), length-drop (length (deskLine w)) out)
+
+-- in a buffer for one line it is all that stands there
+pub line-whole : (out : List ℕ) (w : Shown) → length out ≡ deskWidth → deskWritten w out ≡ deskLine w
+line-whole out w size =
+    let full : length (deskLine w) ≡ length out = line-long w ∙ sym size in
+    let none : drop (length (deskLine w)) out ≡ [] = ap (λ (n : ℕ). drop n out) full ∙ drop-length out in
+    rw (le-leb deskWidth (length out) (omega arith), none) (append-nil (deskLine w))

@@ -1,5 +1,5 @@
--- Two sessions, the files in docs/session: document 01's, and an example for document 02, (ii). They are computed by the definitions, from
--- bytes to bytes (proofs/Paper: worked-session, penalty-session).
+-- Three sessions, the files in docs/session: document 01's, an example for document 02, (ii), and one for (v) at the desk. They are computed by
+-- the definitions, from bytes to bytes (proofs/Paper: worked-session, penalty-session, desk-session).
 use mathlib.Core.List.{List, [], _∷_}
 use Rattle.papers.specs.Exchanges.{Exchange, line}
 
@@ -29,4 +29,18 @@ penaltySession =
     ∷ line " 3             7   14295122534          2534             0             0             7" " 0             2             0   14295139993"
     ∷ line " 3             7   14295122634           100             0             0             7" " 0             2             0   14295122673"
     ∷ line " 3             7   14295122634             0             0             0             7" " 0             1          2285   14295139993"
+    ∷ []
+
+-- an example for document 02, (v), which has none either, on the same line, at the desk: the dispatcher tries to call train 7 back, first to a place
+-- short of its reach and then to the reach, and does so
+abbrev pub deskSession : List Exchange
+deskSession =
+    line " 1  200000000000    8000000000      26822400          3726             0             0" " 0             0             0             0             0             0             0             0             0             0             0             1             0             0             0             0             0             0             0"
+    ∷ line " 2             7   14295120000          2345             1             0         70000" " 0        133303           263   14295120000             7          2345        133303           263   14295120000             0        133303             2             0   14295120000             0             0             0             0             0"
+    ∷ line " 3             7   14295120000             0             0             0             7" " 0             1             0   14295120000             7          2345        133303           263   14295120000             0        133303             1             0   14295120000             0             0             0             0             0"
+    ∷ line " 4             7             1         20000             0             0             7" " 0   14295140000             0             0             7          2345        133303           263   14295120000             0        133303             1             0   14295140000             0             1         20000             0             0"
+    ∷ line " 3             7   14295120000             0             0             0             7" " 0             1          2534   14295139993             7          2345        133303           263   14295120000             0             0             1          2534   14295140000             0             1         20000             0             0"
+    ∷ line "55             7   14295130000             0             0             0             0" "14             0             0             0             0             0             0             0             0             0             0             1             0             0             0             0             0             0             0"
+    ∷ line "55             7   14295139993             0             0             0             0" " 0             0             0             0             7          2345        133303           263   14295120000             0             0             1          2534   14295139993             0             1         20000             0             0"
+    ∷ line " 5             7   14295139993             0             0             0             0" " 0             0             0             0             7          2345        133303           263   14295120000             0             0             1          2534   14295139993             0             1         20000             0             0"
     ∷ []
