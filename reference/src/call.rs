@@ -130,6 +130,21 @@ pub struct Message {
     pub call: Call,
 }
 
+/// What is asked at the desk: a call, or a preview of one.
+#[derive(Clone, Copy, Debug, PartialEq, Eq)]
+pub enum Asked {
+    Call(Message),
+    Preview(Message),
+}
+
+impl Asked {
+    pub fn message(&self) -> Message {
+        match *self {
+            Asked::Call(message) | Asked::Preview(message) => message,
+        }
+    }
+}
+
 /// An answer number and its three values, zeros with a refusal.
 #[derive(Clone, Copy, Debug, PartialEq, Eq)]
 pub struct Answer {
@@ -154,4 +169,18 @@ impl Answer {
     pub fn is_accepted(&self) -> bool {
         self.number == 0
     }
+}
+
+/// A train's record in numbers: id, length in feet, B, j, head, speed, level, the
+/// order and its cap, end, starting number, the last accepted number and its
+/// length, held, penalty.
+pub type Record = [u64; RECORD_FIELDS];
+
+pub const RECORD_FIELDS: usize = 15;
+
+/// What the desk answers: an answer, and the record that it shows.
+#[derive(Clone, Copy, Debug, PartialEq, Eq)]
+pub struct Shown {
+    pub answer: Answer,
+    pub record: Record,
 }

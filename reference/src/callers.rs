@@ -1,11 +1,12 @@
 //! Who makes the calls of the lists: the caller whose call it is, and now and
 //! then one without the right. And how often each kind of those came up.
 
-use crate::call::{Answer, Call, Code, Message, Refusal};
+use crate::call::{Answer, Asked, Call, Code, Message, Refusal};
 use crate::line::LAST_ID;
 use crate::random::Random;
+use crate::rare::fewer_than;
 use crate::rights::{DISPATCHER, YARD};
-use crate::wire::{read_message, FIELD_BYTES, MESSAGE_BYTES, WIDEST};
+use crate::wire::{read_asked, FIELD_BYTES, MESSAGE_BYTES, WIDEST};
 
 /// The digits of 2^63, and what is left of it where a line is cut after its last
 /// column.
@@ -208,13 +209,9 @@ impl TurnedAway {
         NOBODY.into_iter().zip(self.by_number)
     }
 
-    /// What came up less often than this, in words.
-    pub fn rare(&self, least: u64) -> Vec<String> {
-        let mut counts = vec![
-            ("calls too early".to_string(), self.too_early),
-            ("second openings".to_string(), self.second_openings),
-            ("callers too wide".to_string(), self.too_wide),
-        ];
+    /// Answers 16 by kind of caller and call, and by number.
+    pub fn named(&self) -> Vec<(String, u64)> {
+        let mut counts = Vec::new();
         for kind in Wrong::ALL {
             for &code in kind.codes() {
                 counts.push((format!("{code:?} by {kind:?}"), self.by_kind(kind, code)));
@@ -223,11 +220,19 @@ impl TurnedAway {
         for (number, count) in self.by_number() {
             counts.push((format!("caller {number}"), count));
         }
-        counts.retain(|&(_, count)| count < least);
         counts
-            .into_iter()
-            .map(|(what, count)| format!("{what}: {count}"))
-            .collect()
+    }
+
+    /// What came up less often than this, in words.
+    pub fn rare(&self, least: u64) -> Vec<String> {
+        let others = [
+            ("calls too early", self.too_early),
+            ("second openings", self.second_openings),
+            ("callers too wide", self.too_wide),
+        ];
+        let mut rare = fewer_than(least, others);
+        rare.extend(fewer_than(least, self.named()));
+        rare
     }
 }
 
@@ -242,13 +247,13 @@ fn add_each<const N: usize>(sums: &mut [u64; N], others: [u64; N]) {
     }
 }
 
-/// A whole call, with more digits after the last column.
+/// A whole call or preview, with more digits after the last column.
 fn is_too_wide(line: &[u8]) -> bool {
     let Some((message, more)) = line.split_at_checked(MESSAGE_BYTES) else {
         return false;
     };
-    let fills_its_columns = |message: Message| message.caller > WIDEST / 10;
+    let fills_its_columns = |asked: Asked| asked.message().caller > WIDEST / 10;
     !more.is_empty()
         && more.iter().all(u8::is_ascii_digit)
-        && read_message(message).is_some_and(fills_its_columns)
+        && read_asked(message).is_some_and(fills_its_columns)
 }

@@ -22,15 +22,22 @@ pub const CODES: usize = 1 + Code::ALL.len();
 /// A program that takes longer for one list is stopped, and so fails.
 const PATIENCE: Duration = Duration::from_secs(60);
 
-/// The program under test: the variable SESSION, or the built program.
+/// The session program under test: the variable SESSION, or the built program.
 pub fn program() -> PathBuf {
-    if let Some(path) = std::env::var_os("SESSION") {
+    named_or_built("SESSION", "session")
+}
+
+/// The desk program under test: the variable DESK, or the built program.
+pub fn desk_program() -> PathBuf {
+    named_or_built("DESK", "desk")
+}
+
+fn named_or_built(variable: &str, name: &str) -> PathBuf {
+    if let Some(path) = std::env::var_os(variable) {
         return PathBuf::from(path);
     }
-    PathBuf::from(concat!(
-        env!("CARGO_MANIFEST_DIR"),
-        "/../target/bin/session"
-    ))
+    let built = concat!(env!("CARGO_MANIFEST_DIR"), "/../target/bin");
+    Path::new(built).join(name)
 }
 
 /// An error that says what to do where the program is missing.
@@ -39,7 +46,7 @@ pub fn must_exist(program: &Path) -> Result<(), String> {
         return Ok(());
     }
     Err(format!(
-        "{} is missing: build the session program first, or name one with SESSION",
+        "{} is missing: build the session and the desk program first, or name them with SESSION and DESK",
         program.display()
     ))
 }

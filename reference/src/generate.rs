@@ -101,8 +101,12 @@ impl Kind {
 /// The list with this number of the run with this seed.
 pub fn numbered(seed: u64, number: u64) -> Vec<u8> {
     let kind = Kind::ALL[(number % Kind::ALL.len() as u64) as usize];
-    let seed = Random::new(seed ^ number.wrapping_mul(0x2545_f491_4f6c_dd1d)).draw();
-    list(seed, kind)
+    list(seed_of(seed, number), kind)
+}
+
+/// The seed of the list with this number of the run with this seed.
+pub fn seed_of(seed: u64, number: u64) -> u64 {
+    Random::new(seed ^ number.wrapping_mul(0x2545_f491_4f6c_dd1d)).draw()
 }
 
 /// A list of calls.

@@ -40,6 +40,11 @@ impl Line {
         &self.trains
     }
 
+    /// The train with this id, where it is on the line.
+    pub fn train(&self, id: u64) -> Option<Train> {
+        self.find(id).map(|index| self.trains[index])
+    }
+
     /// The farthest place of an end for the train with this index; none where
     /// the safety distance reaches back beyond the start of the line.
     pub fn limit(&self, index: usize) -> Option<u64> {

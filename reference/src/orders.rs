@@ -4,6 +4,7 @@
 use crate::brake::Brake;
 use crate::call::Settings;
 use crate::motion::Order;
+use crate::rare::fewer_than;
 
 /// A search reads few levels where the list has no more entries than this, or
 /// where none of its trials begins faster: then no run has more cycles.
@@ -87,11 +88,7 @@ impl Orders {
 
     /// What came up less often than this, in words.
     pub fn rare(&self, least: u64) -> Vec<String> {
-        let counts = self.named().into_iter();
-        counts
-            .filter(|&(_, count)| count < least)
-            .map(|(what, count)| format!("{what}: {count}"))
-            .collect()
+        fewer_than(least, self.named())
     }
 }
 

@@ -1,72 +1,47 @@
 //! The session program as a value: bytes in, answer lines out.
 
-use crate::call::{Answer, Call, Refusal, Settings};
+use crate::call::{Answer, Call, Message, Refusal, Settings};
+use crate::feed::{self, Fed, Program};
 use crate::line::Line;
 use crate::rights::has_right;
-use crate::wire::{put_answer, read_message, MESSAGE_BYTES};
-use std::io::BufRead;
+use crate::wire::{put_answer, read_message};
 
-#[derive(Default)]
-pub struct Session {
+pub type Session = Fed<Controller>;
+
+/// The line controller: the table, once an opening has been accepted.
+#[derive(Clone, Default)]
+pub struct Controller {
     line: Option<Line>,
-    /// The start of a line whose line feed has not come yet, at most one byte
-    /// more than a readable line has: what is longer is unreadable anyway.
-    part: Vec<u8>,
 }
 
 /// The whole output for a whole input.
 pub fn run(input: &[u8]) -> Vec<u8> {
-    let mut session = Session::default();
-    let mut out = Vec::new();
-    session.feed(input, &mut out);
-    session.finish(&mut out);
-    out
+    feed::run::<Controller>(input)
 }
 
 impl Session {
     /// The table, once an opening has been accepted.
     pub fn line(&self) -> Option<&Line> {
+        self.program().line()
+    }
+}
+
+impl Program for Controller {
+    fn answer_line(&mut self, line: Option<&[u8]>, out: &mut Vec<u8>) {
+        let answer = match line.and_then(read_message) {
+            Some(message) => self.answer(message),
+            None => Answer::refused(Refusal::Unreadable),
+        };
+        put_answer(answer, out);
+    }
+}
+
+impl Controller {
+    pub fn line(&self) -> Option<&Line> {
         self.line.as_ref()
     }
 
-    /// Takes the next bytes and answers every line that ends in them.
-    pub fn feed(&mut self, mut bytes: &[u8], out: &mut Vec<u8>) {
-        while let Some(end) = line_length(bytes) {
-            let answer = self.end_line(&bytes[..end]);
-            put_answer(answer, out);
-            bytes = &bytes[end + 1..];
-        }
-        self.keep(bytes);
-    }
-
-    /// Answers a last line without its line feed.
-    pub fn finish(&mut self, out: &mut Vec<u8>) {
-        if !self.part.is_empty() {
-            put_answer(Answer::refused(Refusal::Unreadable), out);
-        }
-    }
-
-    fn end_line(&mut self, text: &[u8]) -> Answer {
-        if self.part.is_empty() {
-            return self.answer(text);
-        }
-        self.keep(text);
-        let mut part = std::mem::take(&mut self.part);
-        let answer = self.answer(&part);
-        part.clear();
-        self.part = part;
-        answer
-    }
-
-    fn keep(&mut self, bytes: &[u8]) {
-        let room = MESSAGE_BYTES + 1 - self.part.len();
-        self.part.extend_from_slice(&bytes[..bytes.len().min(room)]);
-    }
-
-    fn answer(&mut self, text: &[u8]) -> Answer {
-        let Some(message) = read_message(text) else {
-            return Answer::refused(Refusal::Unreadable);
-        };
+    pub fn answer(&mut self, message: Message) -> Answer {
         if !self.is_in_turn(message.call) {
             return Answer::refused(Refusal::OutOfTurn);
         }
@@ -99,13 +74,4 @@ impl Session {
             Err(refusal) => refusal,
         }
     }
-}
-
-/// Bytes of the first line, if its line feed is there.
-fn line_length(bytes: &[u8]) -> Option<usize> {
-    let mut rest = bytes;
-    // A search for many bytes at once; a slice gives no error.
-    rest.skip_until(b'\n').ok()?;
-    let taken = bytes.len() - rest.len();
-    bytes[..taken].ends_with(b"\n").then(|| taken - 1)
 }

@@ -67,7 +67,8 @@ fn any_column(first: usize, random: &mut Random) -> Range<usize> {
     start..start + FIELD_BYTES
 }
 
-fn set_code(column: &mut [u8], code: &[u8]) {
+/// Sets a code at the right of its columns.
+pub fn set_code(column: &mut [u8], code: &[u8]) {
     let (left, right) = column.split_at_mut(column.len() - code.len());
     left.fill(b' ');
     right.copy_from_slice(code);

@@ -1,7 +1,7 @@
 //! The record of one train.
 
 use crate::brake::{Brake, STEPS_PER_FOOT};
-use crate::call::Entry;
+use crate::call::{Entry, Record};
 use crate::motion::{Motion, Order};
 
 /// One train record.
@@ -16,6 +16,8 @@ pub struct Train {
     pub held: bool,
     /// Braked while it moved, and not reported at a stand since: a penalty brake.
     pub penalty: bool,
+    /// The starting number of this stay.
+    pub start: u64,
     /// The last accepted request number, or the starting number before it.
     pub number: u64,
     /// The last accepted length, none before the first accepted extension.
@@ -23,6 +25,25 @@ pub struct Train {
 }
 
 impl Train {
+    /// No train: zeros, and drive with cap 0 as the order.
+    pub const NONE: Train = Train {
+        id: 0,
+        feet: 0,
+        brake: Brake { full: 0, growth: 0 },
+        motion: Motion {
+            head: 0,
+            speed: 0,
+            level: 0,
+        },
+        order: Order::Drive(0),
+        end: 0,
+        held: false,
+        penalty: false,
+        start: 0,
+        number: 0,
+        length: None,
+    };
+
     /// A train that has just entered: standing at its end under the full brake.
     pub fn entered(entry: Entry, brake: Brake) -> Train {
         Train {
@@ -38,9 +59,32 @@ impl Train {
             end: entry.head,
             held: false,
             penalty: false,
+            start: entry.start,
             number: entry.start,
             length: None,
         }
+    }
+
+    /// Its record as the desk shows it.
+    pub fn record(&self) -> Record {
+        let [order, cap] = self.order.numbers();
+        [
+            self.id,
+            self.feet,
+            self.brake.full,
+            self.brake.growth,
+            self.motion.head,
+            self.motion.speed,
+            self.motion.level,
+            order,
+            cap,
+            self.end,
+            self.start,
+            self.number,
+            self.length.unwrap_or(0),
+            u64::from(self.held),
+            u64::from(self.penalty),
+        ]
     }
 
     /// Length in steps.

@@ -1,7 +1,7 @@
 //! Input lines and answer lines: numbers in columns, right-justified with
 //! spaces, without leading zeros.
 
-use crate::call::{Answer, Call, Code, Entry, Message, Settings};
+use crate::call::{Answer, Asked, Call, Code, Entry, Message, Settings, Shown, RECORD_FIELDS};
 
 /// Columns of a call's code or an answer's number.
 pub const CODE_BYTES: usize = 2;
@@ -13,24 +13,55 @@ pub const MESSAGE_FIELDS: usize = CALL_FIELDS + 1;
 pub const MESSAGE_BYTES: usize = CODE_BYTES + MESSAGE_FIELDS * FIELD_BYTES;
 /// Bytes of an answer line without its line feed.
 pub const ANSWER_BYTES: usize = CODE_BYTES + ANSWER_FIELDS * FIELD_BYTES;
+/// Bytes of the desk's answer line without its line feed: an answer line, then
+/// the record.
+pub const SHOWN_BYTES: usize = CODE_BYTES + SHOWN_FIELDS * FIELD_BYTES;
 /// The greatest number that fits into its columns.
 pub const WIDEST: u64 = 10_u64.pow(FIELD_BYTES as u32) - 1;
 
 const CALL_FIELDS: usize = 5;
 const ANSWER_FIELDS: usize = 3;
+const SHOWN_FIELDS: usize = ANSWER_FIELDS + RECORD_FIELDS;
+/// The code of a preview is its call's and so much more.
+const PREVIEW: u64 = 50;
 
-/// None where the line is unreadable.
+/// None where the line is unreadable. The session program has no previews.
 pub fn read_message(line: &[u8]) -> Option<Message> {
-    let (code, [fields @ .., caller]) = read_columns::<MESSAGE_FIELDS>(line)?;
-    let (call, used) = call_of(code, fields)?;
-    let unused_are_zero = fields[used..].iter().all(|&field| field == 0);
-    unused_are_zero.then_some(Message { caller, call })
+    match read_asked(line)? {
+        Asked::Call(message) => Some(message),
+        Asked::Preview(_) => None,
+    }
+}
+
+/// None where the line is unreadable at the desk.
+pub fn read_asked(line: &[u8]) -> Option<Asked> {
+    let (code, fields) = read_columns::<MESSAGE_FIELDS>(line)?;
+    match code.checked_sub(PREVIEW) {
+        Some(code) => message_of(code, fields).map(Asked::Preview),
+        None => message_of(code, fields).map(Asked::Call),
+    }
+}
+
+/// Whether a line, be it readable or not, begins with the code of a preview.
+pub fn has_preview_code(line: &[u8]) -> bool {
+    let code = line.get(..CODE_BYTES).and_then(read_number);
+    let call = code.and_then(|code| code.checked_sub(PREVIEW));
+    Code::ALL.iter().any(|known| Some(known.number()) == call)
 }
 
 /// None where the line is not an answer of the session program.
 pub fn read_answer(line: &[u8]) -> Option<Answer> {
     let (number, values) = read_columns::<ANSWER_FIELDS>(line)?;
     Some(Answer { number, values })
+}
+
+/// None where the line is not an answer of the desk program.
+pub fn read_shown(line: &[u8]) -> Option<Shown> {
+    let (number, fields) = read_columns::<SHOWN_FIELDS>(line)?;
+    let [first, second, third, record @ ..] = fields;
+    let values = [first, second, third];
+    let answer = Answer { number, values };
+    Some(Shown { answer, record })
 }
 
 /// Adds an answer line with its line feed.
@@ -40,13 +71,32 @@ pub fn put_answer(answer: Answer, out: &mut Vec<u8>) {
     out.extend_from_slice(&line);
 }
 
+/// Adds an answer line of the desk with its line feed.
+pub fn put_shown(shown: Shown, out: &mut Vec<u8>) {
+    let mut fields = [0; SHOWN_FIELDS];
+    let (values, record) = fields.split_at_mut(ANSWER_FIELDS);
+    values.copy_from_slice(&shown.answer.values);
+    record.copy_from_slice(&shown.record);
+    let mut line = [b' '; SHOWN_BYTES + 1];
+    put_columns(shown.answer.number, fields, &mut line);
+    out.extend_from_slice(&line);
+}
+
 /// Adds an input line with its line feed.
 pub fn put_message(message: Message, out: &mut Vec<u8>) {
-    let Message { caller, call } = message;
+    put_asked(Asked::Call(message), out);
+}
+
+/// Adds an input line of the desk with its line feed.
+pub fn put_asked(asked: Asked, out: &mut Vec<u8>) {
+    let (Message { caller, call }, more) = match asked {
+        Asked::Call(message) => (message, 0),
+        Asked::Preview(message) => (message, PREVIEW),
+    };
     let [first, second, third, fourth, fifth] = fields_of(call);
     let fields = [first, second, third, fourth, fifth, caller];
     let mut line = [b' '; MESSAGE_BYTES + 1];
-    put_columns(call.code().number(), fields, &mut line);
+    put_columns(call.code().number() + more, fields, &mut line);
     out.extend_from_slice(&line);
 }
 
@@ -87,6 +137,13 @@ fn read_number(column: &[u8]) -> Option<u64> {
         value = 10 * value + u64::from(byte - b'0');
     }
     Some(value)
+}
+
+/// None where no call has this code, or an unused number is not 0.
+fn message_of(code: u64, [fields @ .., caller]: [u64; MESSAGE_FIELDS]) -> Option<Message> {
+    let (call, used) = call_of(code, fields)?;
+    let unused_are_zero = fields[used..].iter().all(|&field| field == 0);
+    unused_are_zero.then_some(Message { caller, call })
 }
 
 /// The call of a code and how many of its numbers are used.

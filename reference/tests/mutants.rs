@@ -4,9 +4,12 @@
 mod weave;
 
 use reference::claim;
-use reference::compare::{self, check, first_difference, Counts, ANSWERS};
-use reference::generate::numbered;
-use reference::session::run;
+use reference::compare::{self, first_difference, Counts, ANSWERS};
+use reference::compare_desk::{self, DeskCounts};
+use reference::desk;
+use reference::generate;
+use reference::previews;
+use reference::session;
 use std::io::{self, Write};
 use std::sync::atomic::{AtomicUsize, Ordering};
 use std::sync::OnceLock;
@@ -15,11 +18,15 @@ use weave::{edits, Edit, Versions};
 
 const SEED: u64 = 1;
 const LISTS: u64 = 200;
+const DESK_LISTS: u64 = 60;
 /// So many versions run at a time.
 const AT_A_TIME: usize = 2;
 /// In an edit: where trains follow the orders of this version, the claim too
 /// must refuse its answers.
 const BREAKS_CLAIM: &str = "claim: broken";
+/// In an edit: the lists for the desk tell this version, and those for the
+/// session need not.
+const TOLD_BY_DESK: &str = "told by: desk";
 
 /// A list of calls and the right answers.
 struct List {
@@ -27,13 +34,50 @@ struct List {
     right: Vec<u8>,
 }
 
-fn lists() -> Vec<List> {
-    let list = |number| {
-        let input = numbered(SEED, number);
-        let right = run(&input);
-        List { input, right }
-    };
-    (0..LISTS).map(list).collect()
+/// A program, and lists for it.
+struct Lists {
+    program: &'static str,
+    lists: Vec<List>,
+}
+
+impl Lists {
+    fn of_session() -> Lists {
+        let list = |number| {
+            let input = generate::numbered(SEED, number);
+            let right = session::run(&input);
+            List { input, right }
+        };
+        Lists {
+            program: "reference",
+            lists: (0..LISTS).map(list).collect(),
+        }
+    }
+
+    fn of_desk() -> Lists {
+        let list = |number| {
+            let input = previews::numbered(SEED, number);
+            let right = desk::run(&input);
+            List { input, right }
+        };
+        Lists {
+            program: "reference_desk",
+            lists: (0..DESK_LISTS).map(list).collect(),
+        }
+    }
+
+    /// The number of the first list that a version does not answer as the right
+    /// one does.
+    fn telling(&self, version: usize) -> Result<Option<usize>, String> {
+        let versions = versions()?;
+        for (number, list) in self.lists.iter().enumerate() {
+            let mut program = versions.program(version, self.program);
+            let output = compare::run_command(&mut program, &list.input)?;
+            if first_difference(&list.right, &output).is_some() {
+                return Ok(Some(number));
+            }
+        }
+        Ok(None)
+    }
 }
 
 /// All wrong versions, built once for the tests that run them.
@@ -43,28 +87,23 @@ fn versions() -> Result<&'static Versions, String> {
     built.as_ref().map_err(String::clone)
 }
 
-/// Tells which list shows that a wrong version is wrong; an error where it
-/// passes for the right one.
-fn try_edit(edit: &Edit, lists: &[List]) -> Result<usize, String> {
-    let number = telling_list(edit.number, lists)?.ok_or("it is not told apart")?;
-    let breaks = edit.text.lines().any(|line| line == BREAKS_CLAIM);
-    if breaks && !breaks_claim(edit.number)? {
-        return Err("the claim holds with it".to_string());
-    }
-    Ok(number)
+fn says(edit: &Edit, what: &str) -> bool {
+    edit.text.lines().any(|line| line == what)
 }
 
-/// The first list that a version does not answer as the right one does.
-fn telling_list(version: usize, lists: &[List]) -> Result<Option<usize>, String> {
-    let versions = versions()?;
-    for (number, list) in lists.iter().enumerate() {
-        let mut program = versions.program(version, "reference");
-        let output = compare::run_command(&mut program, &list.input)?;
-        if first_difference(&list.right, &output).is_some() {
-            return Ok(Some(number));
-        }
+/// Tells which list shows that a wrong version is wrong; an error where it
+/// passes for the right one.
+fn try_edit(edit: &Edit, session: &Lists, desk: &Lists) -> Result<String, String> {
+    let (lists, name) = if says(edit, TOLD_BY_DESK) {
+        (desk, "desk list")
+    } else {
+        (session, "list")
+    };
+    let number = lists.telling(edit.number)?.ok_or("it is not told apart")?;
+    if says(edit, BREAKS_CLAIM) && !breaks_claim(edit.number)? {
+        return Err("the claim holds with it".to_string());
     }
-    Ok(None)
+    Ok(format!("told by {name} {number}"))
 }
 
 /// Whether the claim refuses some answers of a version to lists in which its
@@ -87,8 +126,8 @@ fn breaks_claim(version: usize) -> Result<bool, String> {
 #[test]
 fn right_version_does_not_differ_from_itself() {
     let mut counts = Counts::default();
-    for List { input, right } in lists() {
-        assert_eq!(check(&input, &right, &mut counts), Ok(()));
+    for List { input, right } in Lists::of_session().lists {
+        assert_eq!(compare::check(&input, &right, &mut counts), Ok(()));
     }
     assert_eq!(counts.lists, LISTS);
     let missing: Vec<usize> = (0..ANSWERS).filter(|&n| counts.by_number(n) == 0).collect();
@@ -111,21 +150,36 @@ fn right_version_does_not_differ_from_itself() {
     assert!(counts.long_runs > 10, "{counts:?}");
 }
 
+#[test]
+fn right_desk_does_not_differ_from_itself() {
+    let mut counts = DeskCounts::default();
+    for List { input, right } in Lists::of_desk().lists {
+        assert_eq!(compare_desk::check(&input, &right, &mut counts), Ok(()));
+    }
+    assert_eq!(counts.calls.lists, DESK_LISTS);
+    let rare = counts.rare(20);
+    assert!(rare.is_empty(), "previews and their calls: {rare:?}");
+    assert!(counts.long_runs > 2, "{counts:?}");
+}
+
 /// So it is the edit that makes a wrong version differ.
 #[test]
 fn version_without_an_edit_does_not_differ() {
-    assert_eq!(telling_list(0, &lists()), Ok(None));
+    for lists in [Lists::of_session(), Lists::of_desk()] {
+        assert_eq!(lists.telling(0), Ok(None), "{}", lists.program);
+    }
 }
 
 #[test]
 fn every_wrong_version_is_told_apart() {
-    let (edits, lists) = (edits(), lists());
+    let edits = edits();
+    let (session, desk) = (Lists::of_session(), Lists::of_desk());
     let (next, done) = (AtomicUsize::new(0), AtomicUsize::new(0));
     let work = || {
         let mut unseen = Vec::new();
         while let Some(edit) = edits.get(next.fetch_add(1, Ordering::Relaxed)) {
-            let told = match try_edit(edit, &lists) {
-                Ok(list) => format!("told by list {list}"),
+            let told = match try_edit(edit, &session, &desk) {
+                Ok(told) => told,
                 Err(why) => {
                     unseen.push(format!("{}: {why}", edit.label));
                     why

@@ -56,23 +56,30 @@ fn program_gives_the_printed_output() {
     assert_eq!(String::from_utf8_lossy(&output), ANSWERS);
 }
 
-/// README's blocks: the crates, a report's way, and the session's two.
-fn readme_blocks() -> [&'static str; 4] {
+/// README's blocks: the crates, a report's way, the session's two, and the
+/// desk's calls.
+fn readme_blocks() -> [&'static str; 5] {
     let readme = include_str!("../../README.md");
     let blocks: Vec<&str> = readme.split("```\n").skip(1).step_by(2).collect();
-    blocks.try_into().expect("four blocks")
+    blocks.try_into().expect("five blocks")
 }
 
 #[test]
 fn readme_prints_the_worked_session() {
-    let [_, _, calls, answers] = readme_blocks();
+    let [_, _, calls, answers, _] = readme_blocks();
     assert_eq!([calls, answers], [CALLS, ANSWERS]);
+}
+
+#[test]
+fn readme_prints_the_calls_at_the_desk() {
+    let [_, _, _, _, calls] = readme_blocks();
+    assert_eq!(calls, include_str!("../../docs/session/desk-calls.txt"));
 }
 
 /// From the session's eighth line to its answer.
 #[test]
 fn readme_shows_the_way_of_a_report() {
-    let [_, way, _, _] = readme_blocks();
+    let [_, way, _, _, _] = readme_blocks();
     assert_eq!(way.lines().next(), CALLS.lines().nth(7));
     assert_eq!(way.lines().last(), ANSWERS.lines().nth(7));
 }

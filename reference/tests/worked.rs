@@ -1,6 +1,6 @@
 //! The worked list and the papers' sessions. The checker has computed them from
 //! the pages in `crates/worked/specs` and `crates/papers/specs`; the gate runs the
-//! program on the files. Page and files have to be the same.
+//! programs on the files. Page and files have to be the same.
 
 use std::fs;
 use std::path::PathBuf;
@@ -9,6 +9,9 @@ use reference::compare::ANSWERS;
 use reference::session;
 use reference::spoil::READ_BYTES;
 use reference::wire::ANSWER_BYTES;
+
+const DESK_CALLS: &str = include_str!("../../docs/session/desk-calls.txt");
+const DESK_ANSWERS: &str = include_str!("../../docs/session/desk-answers.txt");
 
 fn of_crates(file: &str) -> String {
     let path: PathBuf = [env!("CARGO_MANIFEST_DIR"), "../crates", file]
@@ -44,21 +47,31 @@ fn count_in(start: &str) -> usize {
     count.unwrap_or_else(|| panic!("no count in {start:?}"))
 }
 
-/// Document 01's session, then the example of a penalty brake.
+/// Document 01's session, then the example of a penalty brake, then the one at
+/// the desk.
 #[test]
 fn sessions_are_their_page() {
     let (inputs, answers) = page("papers/specs/Paper.antt");
     let printed = |lines: Vec<String>| lines.join("\n") + "\n";
-    let calls = concat!(
+    let calls = [
         include_str!("../../docs/session/calls.txt"),
-        include_str!("../../docs/session/penalty-calls.txt")
-    );
-    let given = concat!(
+        include_str!("../../docs/session/penalty-calls.txt"),
+        DESK_CALLS,
+    ];
+    let given = [
         include_str!("../../docs/session/answers.txt"),
-        include_str!("../../docs/session/penalty-answers.txt")
-    );
-    assert_eq!(printed(inputs), calls);
-    assert_eq!(printed(answers), given);
+        include_str!("../../docs/session/penalty-answers.txt"),
+        DESK_ANSWERS,
+    ];
+    assert_eq!(printed(inputs), calls.concat());
+    assert_eq!(printed(answers), given.concat());
+}
+
+/// The gate runs the desk on its example.
+#[test]
+fn files_of_the_desk_are_its_session() {
+    assert_eq!(of_crates("desk/stdin"), DESK_CALLS);
+    assert_eq!(of_crates("desk/stdout"), DESK_ANSWERS);
 }
 
 #[test]

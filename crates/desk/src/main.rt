@@ -13,13 +13,13 @@ use stream::KEPT_WIDTH;
 use stream::Session;
 use stream::Stream;
 
-// What comes of a line: the state after it, and whether its output line could be written.
+// What comes of a line: the state after it, and whether its output line was written.
 struct Answered {
     session: Session,
     written: bool,
 }
 
-// What comes of a piece of the input: the stream after it, and whether all output lines could be written.
+// What comes of a piece of the input: the stream after it, and whether all output lines were written.
 struct Turned {
     stream: Stream,
     written: bool,
@@ -32,8 +32,9 @@ fn write_line(s: Session, line: &[u8], bytes: &[u8]) -> bool
     io::write_all(1, bytes)
 }
 
-// Answers a line, given without its line feed. `out` is an output line.
-fn take_line(s: Session, line: &[u8], out: &mut [u8]) -> Answered
+// Answers a line, given without its line feed. `out` is an output line. It is not written where one before it could not be: no line may be missing
+// between two that are.
+fn take_line(s: Session, line: &[u8], out: &mut [u8], all_written: bool) -> Answered
     requires { ⌜ length (now out) ≡ deskWidth ⌝ }
     ensures { λ r. ⌜ r .session ≡ deskAnswered s (now (line .entry)) .session ⌝ }
 {
@@ -41,6 +42,12 @@ fn take_line(s: Session, line: &[u8], out: &mut [u8]) -> Answered
     let shown = r.shown;
     let session = r.session;
     desk_line_code::render(shown, out);
+    if !all_written {
+        return Answered {
+            session,
+            written: false,
+        };
+    }
     let written = write_line(s, line, out);
     Answered { session, written }
 }
@@ -58,9 +65,9 @@ fn take_piece(x: Stream, piece: &[u8], out: &mut [u8]) -> Turned
     let mut to = stream_line_code::line_end(piece, 0);
     while to < piece.len() {
         let n = stream_line_code::push_all(&mut bytes, count, &piece[from..to]);
-        let a = take_line(session, &bytes[..n], out);
+        let a = take_line(session, &bytes[..n], out, written);
         session = a.session;
-        written = logic::both(written, a.written);
+        written = a.written;
         count = 0;
         from = to + 1;
         to = stream_line_code::line_end(piece, from);
@@ -99,7 +106,7 @@ fn close(x: Stream, out: &mut [u8])
         return;
     }
     let session = x.session;
-    let a = take_line(session, b"", out);
+    let a = take_line(session, b"", out, true);
     if !a.written {
         tell_not_written();
     }

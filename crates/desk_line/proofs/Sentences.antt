@@ -17,6 +17,7 @@ use Rattle.calls.specs.declared.Opening.{Opening}
 use Rattle.calls.specs.declared.Call.{Call}
 use Rattle.calls.specs.declared.Ask.the-variants.{Open, OnTable}
 use Rattle.calls.specs.declared.Request.{Request}
+use Rattle.calls.specs.declared.RequestRead.{RequestRead}
 use Rattle.calls.specs.declared.RequestRead.the-variants.{Read, Unreadable}
 use Rattle.calls.specs.declared.Refusal.{Refusal}
 use Rattle.calls.specs.declared.Refusal.the-variants.{BadLine, OutOfTurn}
@@ -26,14 +27,16 @@ use Rattle.calls.specs.Requests.{at, request, requestOf}
 use Rattle.table.specs.declared.Table.{Table}
 use Rattle.table.proofs.Sentences.{zeroRecord}
 use Rattle.line.specs.declared.Shown.{Shown}
+use Rattle.line.specs.Decide.{refused}
 use Rattle.line.specs.Preview.{previewed}
 use Rattle.wire.specs.Format.{rowIn, requestBy, lineRead, text, textOf, answerText}
 use Rattle.wire.proofs.RoundTrip.{answer-long}
 use Rattle.stream.specs.declared.Session.{Session}
-use Rattle.stream.specs.Session.{session, lineDecision, answered}
+use Rattle.stream.specs.Session.{session, lineDecision, replied, answered}
+use Rattle.stream.specs.Input.{after}
 use Rattle.desk_line.specs.declared.DeskReply.{DeskReply}
 use Rattle.desk_line.specs.declared.DeskRead.the-variants.{Made, Tried, Nothing}
-use Rattle.desk_line.specs.Desk.{deskAsk, deskAskBy, deskRead, shownAt, leftAt, deskAnswered}
+use Rattle.desk_line.specs.Desk.{asTried, deskAsk, deskAskBy, deskRead, shownAt, leftAt, deskAnswered, deskAfter}
 use Rattle.desk_line.specs.Columns.{deskLine}
 
 -- ---- what a line asks
@@ -90,6 +93,40 @@ as-in-the-session s l r reads =
     let same = session-read l r reads in
     let answer : numbersOf (deskAnswered s l .shown .answer) ≡ answered s l .answer = rw (same, reads) in
     record { answer = answer; columns = first-columns (deskAnswered s l .shown) ∙ ap answerText answer; state = rw (same, reads) }
+
+-- Of any other line it makes nothing, as the session does: the desk has no call that the session lacks. So the calls of a line that is kept lead
+-- the desk to the session's state.
+not-made : (row : List ℕ) (s : Session) → requestOf row ≡ Unreadable → leftAt s (deskAsk row) ≡ s
+unfolding deskAsk leftAt
+not-made row s e = by-test (leb 50 (at row 0)) (λ high. rw high (tried (requestOf (set row 0 (at row 0 - 50))))) (λ low. rw (low, e))
+  where
+    tried : (q : RequestRead) → leftAt s (asTried q) ≡ s
+    tried (Read r) = refl
+    tried Unreadable = refl
+
+pub same-state : (s : Session) (l : List ℕ) → deskAnswered s l .session ≡ answered s l .session
+unfolding lineRead lineDecision deskRead leftAt
+same-state s l = go (rowIn l)
+  where
+    refuses : (b : Bool) (t : Table) → session b t ≡ replied (session b t) (refused BadLine) .session
+    refuses true t = refl
+    refuses false t = refl
+
+    stays : s ≡ replied s (lineDecision s Unreadable) .session
+    stays = refuses (s .opened) (s .table)
+
+    row-asks : (row : List ℕ) (q : RequestRead) → requestOf row ≡ q → leftAt s (deskAsk row) ≡ replied s (lineDecision s q) .session
+    row-asks row (Read r) e = ap (leftAt s) (row-made row r e)
+    row-asks row Unreadable e = not-made row s e ∙ stays
+
+    go : (o : Option (List ℕ)) → leftAt s (deskAskBy o) ≡ replied s (lineDecision s (requestBy o)) .session
+    go none = stays
+    go (some row) = row-asks row (requestOf row) refl
+
+pub same-states : (ls : List (List ℕ)) (s : Session) → deskAfter s ls ≡ after s ls
+unfolding deskAfter after
+same-states [] s = refl
+same-states (l ∷ ls) s = same-states ls (deskAnswered s l .session) ∙ ap (λ (z : Session). after z ls) (same-state s l)
 
 -- ---- what is shown, and what is left
 

@@ -15,6 +15,9 @@ use std::process::Command;
 
 const ROOT: &str = env!("CARGO_MANIFEST_DIR");
 
+/// The programs that a version is built with.
+const PROGRAMS: [&str; 3] = ["reference", "reference_desk", "generate"];
+
 /// The variable that says which version runs. Without it, or with 0, the right
 /// one does.
 const CHOICE: &str = "WRONG";
@@ -63,6 +66,10 @@ fn cut(text: &str) -> Cut {
         let start = line.trim_start();
         if start.starts_with("fn ") || start.starts_with("pub fn ") {
             end = Some(line.replace(start, "}\n"));
+        }
+        // A function that a trait asks for has no body.
+        if line.ends_with(";\n") {
+            end = None;
         }
         if !line.ends_with("{\n") {
             continue;
@@ -165,8 +172,9 @@ impl Build {
         let build = Build { folder };
         let library = ["--crate-type", "rlib", "--crate-name", "reference"];
         build.compile(&library, "src/lib.rs")?;
-        for source in ["src/bin/reference.rs", "src/bin/generate.rs"] {
-            build.compile(&["--extern", "reference=libreference.rlib"], source)?;
+        for program in PROGRAMS {
+            let source = format!("src/bin/{program}.rs");
+            build.compile(&["--extern", "reference=libreference.rlib"], &source)?;
         }
         Ok(build)
     }

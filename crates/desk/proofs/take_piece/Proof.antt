@@ -43,12 +43,12 @@ take-line-requires c κs = c .before .before .before .before .before .before .be
 
 loop-less : tie.Need-loop-less Inv-loop μ-loop
 loop-less c =
-    let t = c .before .before .before .before .before in
+    let t = c .before .before .before .before in
     omega (arith, c .line-end2 .ensures .from, t .before .before .before .before .before .before .before .loop-test .taken)
 
 loop-again : tie.Need-loop-again Inv-loop μ-loop
 loop-again c =
-    let t = c .before .before .before .before .before in
+    let t = c .before .before .before .before in
     let p = t .before .before .before .before in
     let k = turnOf t in (
       search needs,
@@ -91,7 +91,6 @@ take-piece-spec =
     array-share-prefix-bytes
     slice-aggregate-take-line
     take-line-requires
-    (λ c κs. search needs)
     (λ c. omega arith)
     (λ c κs. omega arith)
     loop-less
