@@ -7,35 +7,17 @@ use mathlib.Core.Path.{_≡_, refl, ap}
 use Rattle.calls.specs.declared.Opening.{Opening}
 use Rattle.calls.specs.declared.Answer.the-variants.{Accepted}
 use Rattle.calls.specs.declared.Values.the-variants.{Zeros}
-use Rattle.calls.specs.Answers.{numbersOf}
 use Rattle.table.specs.declared.Table.{Table}
 use Rattle.line.specs.Step.{outcome, requested, openStep}
-use Rattle.safety.specs.History.{Deed, made, tried, Event, history, after}
+use Rattle.safety.specs.History.{made, tried, Event, history, after}
 use Rattle.safety.specs.Claim.{Demand3}
 use Rattle.safety.proofs.Demand3.{demand-3}
 use Rattle.stream.specs.declared.Session.{Session}
 use Rattle.stream.specs.Session.{session}
 use Rattle.desk_line.specs.declared.DeskRead.{DeskRead}
 use Rattle.desk_line.specs.declared.DeskRead.the-variants.{Made, Tried, Nothing}
-use Rattle.desk_line.specs.Desk.{deskRead, shownAt, leftAt, deskAnswered, deskAfter}
-
--- what a line does
-abbrev pub deedAt : DeskRead → List Deed
-deedAt (Made r) = made r ∷ []
-deedAt (Tried r) = tried r ∷ []
-deedAt Nothing = []
-
-abbrev pub deedsAt : List (List ℕ) → List Deed
-deedsAt [] = []
-deedsAt (l ∷ ls) = deedAt (deskRead l) ++ deedsAt ls
-
--- the same with the answers that the desk gives them
-abbrev eventAt : Session → DeskRead → Deed → Event
-eventAt s a d = record { deed = d; answer = numbersOf (shownAt s a .answer) }
-
-abbrev pub eventsAt : Session → List (List ℕ) → List Event
-eventsAt s [] = []
-eventsAt s (l ∷ ls) = map (eventAt s (deskRead l)) (deedAt (deskRead l)) ++ eventsAt (deskAnswered s l .session) ls
+use Rattle.desk_line.specs.Desk.{deskRead, shownAt, leftAt, deskAfter}
+use Rattle.desk_line.specs.Demand3.{deedAt, deedsAt, eventAt, eventsAt}
 
 -- the lines ls leave what their deeds leave, and these get the answers of a history
 abbrev pub Follows : Table → List (List ℕ) → Type 0

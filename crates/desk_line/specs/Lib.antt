@@ -1,2 +1,3 @@
 pub mod Desk
 pub mod Columns
+pub mod Demand3

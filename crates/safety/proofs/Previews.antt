@@ -14,7 +14,7 @@ use Rattle.table.specs.declared.Table.{Table}
 use Rattle.line.specs.Step.{requested}
 use Rattle.line.specs.Preview.{previewed}
 use Rattle.line.proofs.Previews.{preview-answers}
-use Rattle.safety.specs.History.{Deed, made, tried, done, Event, history, after, Line, opened, toldBy, told}
+use Rattle.safety.specs.History.{Deed, made, tried, done, history, after, Line, opened, toldBy, told}
 use Rattle.safety.proofs.Calls.{event, tried-tells}
 
 -- a call that is tried where it stands in the list gets the answer that it would get there if it were made

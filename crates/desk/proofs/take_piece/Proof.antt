@@ -4,7 +4,6 @@ use native.Mathlib.Omega.{arith}
 use mathlib.Core.Path.{_≡_, refl, sym, ap, _∙_}
 use lib.ListN.{length, take, length-take}
 use borrow.Author.Needs.{needs}
-use Rattle.stream.specs.Input.{keptWidth}
 use Rattle.desk_line.specs.Columns.{deskWidth}
 use Rattle.desk.proofs.Turns.{Standing, standing, Taking, line-taken, piece-taken}
 use Rattle.desk.proofs.take_piece.Statement.{statement}
