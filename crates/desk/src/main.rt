@@ -9,7 +9,6 @@ ghost use Rattle.desk_line.specs.Desk.{deskAnswered};
 ghost use Rattle.desk_line.specs.Columns.{deskLine, deskWidth};
 ghost use Rattle.desk.specs.Program.{DeskTurn};
 use desk_line_code::DESK_WIDTH;
-use stream::KEPT_WIDTH;
 use stream::Session;
 use stream::Stream;
 
