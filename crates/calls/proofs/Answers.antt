@@ -7,7 +7,7 @@ use native.Mathlib.Omega.{arith}
 use lib.Dec.{eqb}
 use borrow.Author.Tests.{ne-eqb}
 use Rattle.calls.specs.declared.Refusal.{Refusal}
-use Rattle.calls.specs.declared.Refusal.the-variants.{BadLine, OutOfTurn, BadSetting, BadEntry, OnLine, LineFull, BadHead, NoTrain, NotAllowed, BadRequest, OldNumber, OtherLength, NoTrack, BadPlace, NotLeaving, NoRight}
+use Rattle.calls.specs.declared.Refusal.the-variants.{BadLine, OutOfTurn, BadSetting, BadEntry, OnLine, LineFull, BadHead, NoTrain, NotAllowed, BadRequest, OldNumber, OtherLength, NoTrack, BadPlace, NotLeaving, NoRight, Pending}
 use Rattle.calls.specs.declared.Answer.the-variants.{Accepted}
 use Rattle.calls.specs.declared.Values.{Values}
 use Rattle.calls.specs.declared.Values.the-variants.{Entered, Ordered, Extended, Zeros}
@@ -19,7 +19,7 @@ accepted-0 (Ordered o r) = refl
 accepted-0 (Extended end repeat) = refl
 accepted-0 Zeros = refl
 
-pub refusal-range : (r : Refusal) → (1 ≤ refusalNumber r) × (refusalNumber r ≤ 16)
+pub refusal-range : (r : Refusal) → (1 ≤ refusalNumber r) × (refusalNumber r ≤ 17)
 refusal-range BadLine = omega arith
 refusal-range OutOfTurn = omega arith
 refusal-range BadSetting = omega arith
@@ -36,6 +36,7 @@ refusal-range NoTrack = omega arith
 refusal-range BadPlace = omega arith
 refusal-range NotLeaving = omega arith
 refusal-range NoRight = omega arith
+refusal-range Pending = omega arith
 
 -- so none has the number of acceptance
 pub refusal-not-0 : (r : Refusal) → eqb (refusalNumber r) 0 ≡ false

@@ -3,7 +3,7 @@ use Prim.Native.Nat.{ℕ}
 use mathlib.Core.Bool.{cond}
 use Rattle.motion.specs.Orders.{orderNumber, orderCap}
 use Rattle.calls.specs.declared.Refusal.{Refusal}
-use Rattle.calls.specs.declared.Refusal.the-variants.{BadLine, OutOfTurn, BadSetting, BadEntry, OnLine, LineFull, BadHead, NoTrain, NotAllowed, BadRequest, OldNumber, OtherLength, NoTrack, BadPlace, NotLeaving, NoRight}
+use Rattle.calls.specs.declared.Refusal.the-variants.{BadLine, OutOfTurn, BadSetting, BadEntry, OnLine, LineFull, BadHead, NoTrain, NotAllowed, BadRequest, OldNumber, OtherLength, NoTrack, BadPlace, NotLeaving, NoRight, Pending}
 use Rattle.calls.specs.declared.Answer.{Answer}
 use Rattle.calls.specs.declared.Answer.the-variants.{Accepted, Refused}
 use Rattle.calls.specs.declared.Values.the-variants.{Entered, Ordered, Extended, Zeros}
@@ -36,12 +36,14 @@ refusalNumber OldNumber = 11
 refusalNumber OtherLength = 12
 -- new end beyond the limit
 refusalNumber NoTrack = 13
--- the dispatcher: place below reach or above end
+-- the dispatcher: place behind the head or beyond the end
 refusalNumber BadPlace = 14
 -- the yard: train not first, or not standing under brake
 refusalNumber NotLeaving = 15
 -- any caller: caller without the right
 refusalNumber NoRight = 16
+-- the train: a new extension while a call back is pending
+refusalNumber Pending = 17
 
 abbrev pub numbers : ℕ → ℕ → ℕ → ℕ → Numbers
 numbers n a b c = record { number = n; first = a; second = b; third = c }

@@ -3,7 +3,7 @@
 use Prim.Native.Nat.{ℕ}
 use mathlib.Core.List.{List, [], _∷_}
 use Rattle.calls.specs.declared.Refusal.{Refusal}
-use Rattle.calls.specs.declared.Refusal.the-variants.{BadLine, OutOfTurn, BadSetting, BadEntry, OnLine, LineFull, BadHead, NoTrain, NotAllowed, BadRequest, OldNumber, OtherLength, NoTrack, BadPlace, NotLeaving, NoRight}
+use Rattle.calls.specs.declared.Refusal.the-variants.{BadLine, OutOfTurn, BadSetting, BadEntry, OnLine, LineFull, BadHead, NoTrain, NotAllowed, BadRequest, OldNumber, OtherLength, NoTrack, BadPlace, NotLeaving, NoRight, Pending}
 use Rattle.calls.specs.declared.Answer.{Answer}
 use Rattle.calls.specs.declared.Answer.the-variants.{Refused}
 use Rattle.calls.specs.declared.Numbers.{Numbers}
@@ -38,10 +38,12 @@ answers =
     ∷ refusal OldNumber 11
     ∷ refusal OtherLength 12
     ∷ refusal NoTrack 13
-    -- place below reach or above end
+    -- place behind the head or beyond the end
     ∷ refusal BadPlace 14
     -- train not first, or not standing under brake
     ∷ refusal NotLeaving 15
     -- caller without the right
     ∷ refusal NoRight 16
+    -- a new extension while a call back is pending
+    ∷ refusal Pending 17
     ∷ []

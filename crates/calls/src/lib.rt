@@ -90,6 +90,7 @@ pub enum Refusal {
     BadPlace,
     NotLeaving,
     NoRight,
+    Pending,
 }
 
 // What an accepted call gives. Entered: B, j and end. Ordered: the order and its reach. Extended: the end, and whether the request

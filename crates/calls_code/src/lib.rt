@@ -43,6 +43,7 @@ fn refusal_number(r: Refusal) -> u64
         Refusal::BadPlace => 14,
         Refusal::NotLeaving => 15,
         Refusal::NoRight => 16,
+        Refusal::Pending => 17,
     }
 }
 
