@@ -5,11 +5,10 @@ use mathlib.Core.Bool.{true, false, not}
 use mathlib.Core.Path.{_≡_}
 use borrow.Author.Tests.{not-false}
 use Rattle.train.specs.declared.Train.{Train}
-use Rattle.train.specs.Report.{reachOf}
 use Rattle.acts.specs.Acts.{callBackAllowed, mayLeave}
 use Rattle.acts.proofs.Sentences.{call-back-between, leaves-exactly}
 
-pub call-back-allowed : (x : Train) (place : ℕ) → not (callBackAllowed x place) ≡ false → (reachOf x ≤ place) × (place ≤ x .authority .end)
+pub call-back-allowed : (x : Train) (place : ℕ) → not (callBackAllowed x place) ≡ false → (x .motion .head ≤ place) × (place ≤ x .authority .end)
 call-back-allowed x place e = call-back-between x place (not-false _ e)
 
 pub first-leaves : (i : ℕ) (x : Train) → mayLeave i x ≡ true → i ≡ 0

@@ -1,5 +1,5 @@
--- Document 01, "Authorities" and "What is turned down", said a second time of one train: in numbers and in the fields of its record, where
--- the definitions test and choose. A wrong definition is refused here, whatever the code.
+-- Document 01, "Authorities" and "What is turned down", and document 02, (vi), said a second time of one train: in numbers and in the fields
+-- of its record, where the definitions test and choose. A wrong definition is refused here, whatever the code.
 -- Assumes nothing.
 use Prim.Native.Nat.{ℕ, _+_, _≤_, _<_}
 use mathlib.Core.Bool.{true, false, _&&_}
@@ -19,12 +19,13 @@ use Rattle.motion.specs.declared.Order.the-variants.{Brake}
 use Rattle.motion.specs.Motion.{stands}
 use Rattle.motion.specs.Orders.{isBrake, reach}
 use Rattle.motion.proofs.Sentences.{brake-tested}
+use Rattle.motion.proofs.Domination.{head-reach}
 use Rattle.calls.specs.declared.Reading.{Reading}
 use Rattle.calls.specs.declared.Extension.{Extension}
 use Rattle.calls.specs.declared.Act.{Act}
 use Rattle.calls.specs.declared.Act.the-variants.{Report, Extend, CallBack, Hold, Lift}
 use Rattle.calls.specs.declared.Refusal.{Refusal}
-use Rattle.calls.specs.declared.Refusal.the-variants.{NotAllowed, BadRequest, OldNumber, OtherLength, NoTrack, BadPlace}
+use Rattle.calls.specs.declared.Refusal.the-variants.{NotAllowed, BadRequest, OldNumber, OtherLength, NoTrack, BadPlace, Pending}
 use Rattle.calls.specs.declared.Values.the-variants.{Ordered, Extended, Zeros}
 use Rattle.calls.specs.Checks.{firstOf}
 use Rattle.calls.proofs.Checks.{passed}
@@ -35,13 +36,14 @@ use Rattle.train.specs.declared.Limit.{Limit}
 use Rattle.acts.specs.declared.Verdict.{Verdict}
 use Rattle.acts.specs.declared.Verdict.the-variants.{TurnedDown, Passed}
 use Rattle.train.specs.Record.{same}
-use Rattle.train.specs.Report.{orderAfter, isPenalty, reported, computable, reportAllowed}
-use Rattle.acts.specs.Acts.{requestInRange, isOld, isRepeat, extended, callBackAllowed, mayLeave}
+use Rattle.train.specs.Report.{reachOf, orderAfter, isPenalty, settled, reported, computable, reportAllowed}
+use Rattle.acts.specs.Acts.{requestInRange, isOld, isRepeat, extended, calledBack, callBackAllowed, mayLeave}
 use Rattle.acts.specs.Decide.{decide, verdict}
 use Rattle.train.proofs.Track.{InLimit, limit-within, limit-beyond}
 use Rattle.train.proofs.Records.{report-passed}
 use Rattle.train.proofs.Sentences.{Allows, report-exactly, levelFound, motion-found, penalty-order}
-use Rattle.acts.proofs.Verdicts.{report-refused, report-taken, extend-bad, extend-old, extend-other, extend-repeat, extend-beyond, extend-new, call-back-refused, call-back-taken}
+use Rattle.train.proofs.Pending.{settled-numbers}
+use Rattle.acts.proofs.Verdicts.{report-refused, report-taken, extend-bad, extend-old, extend-other, extend-repeat, extend-pending, extend-beyond, extend-new, call-back-refused, call-back-taken}
 
 -- ---- reports
 
@@ -55,15 +57,20 @@ module _ (σ : Settings) (limit : Limit) (x : Train) (r : Reading) where
       by-test (reportAllowed σ x r) (λ e. absurd (out (report-exactly x r .0 (report-passed σ x r e .allows)))) (λ e. report-refused σ x r e)
 
   -- "A report gives head and speed at the end of a cycle"; the level is the one found after the last cycle. The record gets them, the order and
-  -- the mark that they make; the answer that order and its reach.
-  pub report-answered : reportAllowed σ x r ≡ true
-      → let m : Motion = record { head = r .head; speed = r .speed; level = levelFound (x .figures) (x .motion) (x .order) } in
+  -- the mark that they make; the answer that order and its reach. The order is worked out first, against the authority as it was; what it makes
+  -- of a pending call back is said in train/proofs/Pending.
+  abbrev pub AnsweredBy : Motion → Type 0
+  AnsweredBy m =
       let o = orderAfter σ x m in
       report
       ≡ Passed (Ordered o (reach (x .figures) m o))
-      (same x m o (x .authority) (record { held = x .marks .held; penalty = isPenalty (x .figures) m o }))
+      (same x m o (settled (x .authority) (stands (x .figures) (m .speed) (m .level)) (m .head) (reach (x .figures) m o))
+      (record { held = x .marks .held; penalty = isPenalty (x .figures) m o }))
+
+  pub report-answered : reportAllowed σ x r ≡ true
+      → AnsweredBy (record { head = r .head; speed = r .speed; level = levelFound (x .figures) (x .motion) (x .order) })
   unfolding reported
-  report-answered e = rw (← (motion-found x r)) (report-taken σ x r e)
+  report-answered e = subst AnsweredBy (motion-found x r) (report-taken σ x r e)
 
 -- ---- extend
 
@@ -121,18 +128,24 @@ module _ (σ : Settings) (limit : Limit) (x : Train) (q : Extension) where
       pub extension-repeated : q .number ≡ mine .number → q .length ≡ mine .length → extension ≡ Passed (Extended (mine .end) true) x
       extension-repeated e f = extend-repeat σ x limit q (ranged σ q a) (fresh (omega arith)) e f
 
-      -- 13 "new end beyond the limit"
-      pub extension-13 : mine .number < q .number → (InLimit limit (mine .end + q .length) → ⊥) → extension ≡ TurnedDown NoTrack
-      extension-13 new far =
-          extend-beyond σ x limit q (ranged σ q a) (fresh (omega arith)) (λ e. omega arith) (limit-beyond limit _ far)
+      module _ (new : mine .number < q .number) where
+        -- 17 "a new extension while a call back is pending ... before 13": whatever the limit
+        pub extension-17 : (mine .goal ≡ mine .end → ⊥) → extension ≡ TurnedDown Pending
+        extension-17 pending = extend-pending σ x limit q (ranged σ q a) (fresh (omega arith)) (λ e. omega arith) pending
 
-      -- "A new number (above the last accepted or starting one) adds the length if the new end is within the limit."
-      pub extension-taken : mine .number < q .number → InLimit limit (mine .end + q .length)
-          → extension
-          ≡ Passed (Extended (mine .end + q .length) false)
-          (same x (x .motion) (x .order) (record { end = mine .end + q .length; start = mine .start; number = q .number; length = q .length }) (x .marks))
-      extension-taken new near =
-          extend-new σ x limit q (ranged σ q a) (fresh (omega arith)) (λ e. omega arith) (limit-within limit _ near)
+        module _ (free : mine .goal ≡ mine .end) where
+          -- 13 "new end beyond the limit"
+          pub extension-13 : (InLimit limit (mine .end + q .length) → ⊥) → extension ≡ TurnedDown NoTrack
+          extension-13 far =
+              extend-beyond σ x limit q (ranged σ q a) (fresh (omega arith)) (λ e. omega arith) free (limit-beyond limit _ far)
+
+          -- "A new number (above the last accepted or starting one) adds the length if the new end is within the limit."
+          pub extension-taken : InLimit limit (mine .end + q .length)
+              → let longer : Authority =
+              record { end = mine .end + q .length; goal = mine .end + q .length; start = mine .start; number = q .number; length = q .length } in
+              extension ≡ Passed (Extended (mine .end + q .length) false) (same x (x .motion) (x .order) longer (x .marks))
+          extension-taken near =
+              extend-new σ x limit q (ranged σ q a) (fresh (omega arith)) (λ e. omega arith) free (limit-within limit _ near)
 
   -- a number above the starting one, up to the last accepted: refused, or the repeat that changes nothing
   pub extension-used : mine .start < q .number → q .number ≤ mine .number
@@ -181,11 +194,15 @@ module _ (σ : Settings) (limit : Limit) (x : Train) (q : Extension) where
 
 -- ---- call back
 
-pub call-back-between : (x : Train) (place : ℕ) → callBackAllowed x place ≡ true → (reach (x .figures) (x .motion) (x .order) ≤ place) × (place ≤ x .authority .end)
+pub call-back-between : (x : Train) (place : ℕ) → callBackAllowed x place ≡ true → (x .motion .head ≤ place) × (place ≤ x .authority .end)
 unfolding callBackAllowed
-call-back-between x place e = between-exactly (reach (x .figures) (x .motion) (x .order)) (x .authority .end) place .0 (both (computable x) _ e .1)
+call-back-between x place e = between-exactly (x .motion .head) (x .authority .end) place .0 (both (computable x) _ e .1)
 
-pub call-back-tested : (x : Train) (place : ℕ) → computable x ≡ true → callBackAllowed x place ≡ between (reach (x .figures) (x .motion) (x .order)) (x .authority .end) place
+pub call-back-computes : (x : Train) (place : ℕ) → callBackAllowed x place ≡ true → computable x ≡ true
+unfolding callBackAllowed
+call-back-computes x place e = both (computable x) _ e .0
+
+pub call-back-tested : (x : Train) (place : ℕ) → computable x ≡ true → callBackAllowed x place ≡ between (x .motion .head) (x .authority .end) place
 unfolding callBackAllowed
 call-back-tested x place e = rw e
 
@@ -193,19 +210,29 @@ module _ (σ : Settings) (limit : Limit) (x : Train) (place : ℕ) where
   abbrev calling : Verdict
   calling = verdict (decide σ limit x (CallBack place))
 
-  -- "the end becomes a named place from reach to end, both included"
+  -- "the end becomes a named place from reach to end, both included", whatever was pending
   pub call-back-moves : computable x ≡ true → reach (x .figures) (x .motion) (x .order) ≤ place → place ≤ x .authority .end
-      → calling
-      ≡ Passed Zeros
-      (same x (x .motion) (x .order) (record { end = place; start = x .authority .start; number = x .authority .number; length = x .authority .length }) (x .marks))
-  call-back-moves computes low high = call-back-taken x place (call-back-tested x place computes ∙ between-exactly _ _ place .1 (low, high))
+      → let nearer : Authority = record { end = place; goal = place; start = x .authority .start; number = x .authority .number; length = x .authority .length } in
+      calling ≡ Passed Zeros (same x (x .motion) (x .order) nearer (x .marks))
+  unfolding calledBack
+  call-back-moves computes low high =
+      let ahead = head-reach (x .figures) (x .motion) (x .order) in
+      call-back-taken x place (call-back-tested x place computes ∙ between-exactly _ _ place .1 (omega arith, high)) ∙ (rw (le-leb _ _ low))
 
-  -- 14 "place below reach or above end"
-  pub call-back-14 : (place < reach (x .figures) (x .motion) (x .order)) ⊎ (x .authority .end < place) → calling ≡ TurnedDown BadPlace
+  -- "A call back from the train's head up to just short of its reach is now taken as pending"; "a newer call back ... replaces this one": the
+  -- place is wanted, whatever was pending, and the end stays
+  pub call-back-pends : computable x ≡ true → x .motion .head ≤ place → place < reach (x .figures) (x .motion) (x .order) → place ≤ x .authority .end
+      → let waiting : Authority = record { end = x .authority .end; goal = place; start = x .authority .start; number = x .authority .number; length = x .authority .length } in
+      calling ≡ Passed Zeros (same x (x .motion) (x .order) waiting (x .marks))
+  unfolding calledBack
+  call-back-pends computes low short high =
+      call-back-taken x place (call-back-tested x place computes ∙ between-exactly _ _ place .1 (low, high)) ∙ (rw (lt-leb _ _ short))
+
+  -- 14 "a place behind the head or beyond the end"
+  pub call-back-14 : (place < x .motion .head) ⊎ (x .authority .end < place) → calling ≡ TurnedDown BadPlace
   call-back-14 h = by-test (callBackAllowed x place) (λ e. absurd (out (call-back-between x place e) h)) (λ e. call-back-refused x place e)
     where
-      out : (reach (x .figures) (x .motion) (x .order) ≤ place) × (place ≤ x .authority .end)
-          → (place < reach (x .figures) (x .motion) (x .order)) ⊎ (x .authority .end < place) → ⊥
+      out : (x .motion .head ≤ place) × (place ≤ x .authority .end) → (place < x .motion .head) ⊎ (x .authority .end < place) → ⊥
       out ends (inl low) = omega arith
       out ends (inr high) = omega arith
 
@@ -232,7 +259,7 @@ lift-brakes-on σ limit x m = penalty-order σ (decide σ limit x Lift .after) m
 -- nor does any act but a report, whatever it does to the authority
 pub penalty-stays : (σ : Settings) (limit : Limit) (x : Train) (a : Act) → ((r : Reading) → a ≡ Report r → ⊥)
     → decide σ limit x a .after .marks .penalty ≡ x .marks .penalty
-unfolding extended
+unfolding extended calledBack
 penalty-stays σ limit x (Report r) other = absurd (other r refl)
 penalty-stays σ limit x (Extend q) other = by-test (isRepeat (x .authority) q) (λ e. rw e) (λ e. rw e)
 penalty-stays σ limit x (CallBack place) other = refl
@@ -264,13 +291,17 @@ pub record Leaves (a : Act) (x y : Train) : Type 0 where
   pub numbers : ((q : Extension) × (a ≡ Extend q) × (y ≡ extended x q)) ⊎ ((y .authority .number ≡ x .authority .number) × (y .authority .length ≡ x .authority .length))
 
 pub act-leaves : (σ : Settings) (limit : Limit) (x : Train) (a : Act) → Leaves a x (decide σ limit x a .after)
-unfolding reported extended
-act-leaves σ limit x (Report r) = record { id = refl; start = refl; numbers = inr (refl, refl) }
+unfolding reported extended calledBack
+act-leaves σ limit x (Report r) =
+    let same = settled-numbers (x .authority) _ _ _ in record { id = refl; start = same .start; numbers = inr (same .number, same .length) }
 act-leaves σ limit x (Extend q) =
     let (id, start) : (extended x q .id ≡ x .id) × (extended x q .authority .start ≡ x .authority .start) =
     by-test (isRepeat (x .authority) q) (λ e. rw e (refl, refl)) (λ e. rw e (refl, refl)) in
     record { id = id; start = start; numbers = inl (q, refl, refl) }
-act-leaves σ limit x (CallBack place) = record { id = refl; start = refl; numbers = inr (refl, refl) }
+act-leaves σ limit x (CallBack place) =
+    by-test (leb (reachOf x) place)
+    (λ e. rw e (record { id = refl; start = refl; numbers = inr (refl, refl) }))
+    (λ e. rw e (record { id = refl; start = refl; numbers = inr (refl, refl) }))
 act-leaves σ limit x Hold = record { id = refl; start = refl; numbers = inr (refl, refl) }
 act-leaves σ limit x Lift = record { id = refl; start = refl; numbers = inr (refl, refl) }
 

@@ -6,7 +6,7 @@ use mathlib.Core.Path.{_≡_}
 use borrow.Author.Tests.{eq-eqb, ne-eqb}
 use Rattle.calls.specs.declared.Reading.{Reading}
 use Rattle.calls.specs.declared.Extension.{Extension}
-use Rattle.calls.specs.declared.Refusal.the-variants.{NotAllowed, BadRequest, OldNumber, OtherLength, NoTrack, BadPlace}
+use Rattle.calls.specs.declared.Refusal.the-variants.{NotAllowed, BadRequest, OldNumber, OtherLength, NoTrack, BadPlace, Pending}
 use Rattle.calls.specs.declared.Values.the-variants.{Ordered, Extended, Zeros}
 use Rattle.calls.specs.Checks.{firstOf}
 use Rattle.train.specs.declared.Settings.{Settings}
@@ -14,7 +14,7 @@ use Rattle.train.specs.declared.Authority.{Authority}
 use Rattle.train.specs.declared.Train.{Train}
 use Rattle.train.specs.declared.Limit.{Limit}
 use Rattle.acts.specs.declared.Verdict.the-variants.{TurnedDown, Passed}
-use Rattle.train.specs.Record.{authorised}
+use Rattle.train.specs.Record.{isPending, authorised}
 use Rattle.train.specs.Track.{withinLimit}
 use Rattle.train.specs.Report.{reachOf, reported, reportAllowed}
 use Rattle.acts.specs.Acts.{requestInRange, isRepeat, isOld, granted, extended, calledBack, callBackAllowed}
@@ -56,14 +56,20 @@ module _ (σ : Settings) (x : Train) where
         unfolding firstOf isRepeat extended
         extend-repeat e f = rw (ranged, fresh, eq-eqb (q .number) (mine .number) e, eq-eqb (q .length) (mine .length) f)
 
-        pub extend-beyond : (q .number ≡ mine .number → ⊥) → withinLimit limit (mine .end + q .length) ≡ false → verdict (extending σ limit x q) ≡ TurnedDown NoTrack
-        unfolding firstOf isRepeat
-        extend-beyond e f = rw (ranged, fresh, ne-eqb (q .number) (mine .number) e, f)
+        module _ (new : q .number ≡ mine .number → ⊥) where
+          pub extend-pending : (mine .goal ≡ mine .end → ⊥) → verdict (extending σ limit x q) ≡ TurnedDown Pending
+          unfolding firstOf isRepeat isPending
+          extend-pending pending = rw (ranged, fresh, ne-eqb (q .number) (mine .number) new, ne-eqb (mine .goal) (mine .end) pending)
 
-        pub extend-new : (q .number ≡ mine .number → ⊥) → withinLimit limit (mine .end + q .length) ≡ true
-            → verdict (extending σ limit x q) ≡ Passed (Extended (mine .end + q .length) false) (authorised x (granted mine q))
-        unfolding firstOf isRepeat extended
-        extend-new e f = rw (ranged, fresh, ne-eqb (q .number) (mine .number) e, f)
+          module _ (free : mine .goal ≡ mine .end) where
+            pub extend-beyond : withinLimit limit (mine .end + q .length) ≡ false → verdict (extending σ limit x q) ≡ TurnedDown NoTrack
+            unfolding firstOf isRepeat isPending
+            extend-beyond e = rw (ranged, fresh, ne-eqb (q .number) (mine .number) new, eq-eqb (mine .goal) (mine .end) free, e)
+
+            pub extend-new : withinLimit limit (mine .end + q .length) ≡ true
+                → verdict (extending σ limit x q) ≡ Passed (Extended (mine .end + q .length) false) (authorised x (granted mine q))
+            unfolding firstOf isRepeat isPending extended
+            extend-new e = rw (ranged, fresh, ne-eqb (q .number) (mine .number) new, eq-eqb (mine .goal) (mine .end) free, e)
 
 -- ---- call back
 

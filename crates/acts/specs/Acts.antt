@@ -1,4 +1,4 @@
--- Document 01, "Authorities": what each call does to the train that it names.
+-- Document 01, "Authorities", and document 02, (vi): what each call does to the train that it names.
 use Prim.Native.Nat.{ℕ, _+_}
 use mathlib.Core.Bool.{Bool, cond, _&&_, _||_}
 use lib.Dec.{leb, ltb, eqb}
@@ -9,7 +9,7 @@ use Rattle.calls.specs.declared.Extension.{Extension}
 use Rattle.train.specs.declared.Settings.{Settings}
 use Rattle.train.specs.declared.Authority.{Authority}
 use Rattle.train.specs.declared.Train.{Train}
-use Rattle.train.specs.Record.{authorityTo, endingAt, same, authorised}
+use Rattle.train.specs.Record.{authorityTo, endingAt, wanting, same, authorised}
 use Rattle.train.specs.Report.{reachOf, computable}
 
 -- a request: its number, and its length from 1 to the line end
@@ -32,13 +32,15 @@ granted a q = authorityTo (a .end + q .length) (a .start) (q .number) (q .length
 unfoldable pub extended : Train → Extension → Train
 extended x q = cond (isRepeat (x .authority) q) x (authorised x (granted (x .authority) q))
 
--- Call back: the end becomes a named place from reach to end, both included. The request number stays.
-abbrev pub calledBack : Train → ℕ → Train
-calledBack x place = authorised x (endingAt (x .authority) place)
+-- Call back: the end becomes a named place from reach to end, both included. Short of the reach the place is wanted, and the call back is
+-- pending. Either takes the place of one that was pending. The request number stays.
+unfoldable pub calledBack : Train → ℕ → Train
+calledBack x place = authorised x (cond (leb (reachOf x) place) (endingAt (x .authority) place) (wanting (x .authority) place))
 
--- on a table that calls left this is the second test alone (safety/proofs/Bounds: call-back-judged)
+-- A place from the head to the end, both included. On a table that calls left this is the second test alone (safety/proofs/Bounds:
+-- call-back-judged).
 unfoldable pub callBackAllowed : Train → ℕ → Bool
-callBackAllowed x place = computable x && between (reachOf x) (x .authority .end) place
+callBackAllowed x place = computable x && between (x .motion .head) (x .authority .end) place
 
 -- Hold and lift: the mark of a hold alone, which the next report reads; a penalty brake stays on
 abbrev pub holding : Train → Bool → Train

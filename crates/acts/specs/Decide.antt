@@ -1,4 +1,4 @@
--- Document 01, "Authorities" and "What is turned down": what each act of a train on the line comes to.
+-- Document 01, "Authorities" and "What is turned down", and document 02, (vi): what each act of a train on the line comes to.
 use Prim.Native.Nat.{ℕ, _+_}
 use mathlib.Core.Bool.{Bool, true, false, not, _&&_}
 use mathlib.Core.Option.{Option, none, some}
@@ -9,7 +9,7 @@ use Rattle.calls.specs.declared.Extension.{Extension}
 use Rattle.calls.specs.declared.Act.{Act}
 use Rattle.calls.specs.declared.Act.the-variants.{Report, Extend, CallBack, Hold, Lift}
 use Rattle.calls.specs.declared.Refusal.{Refusal}
-use Rattle.calls.specs.declared.Refusal.the-variants.{NotAllowed, BadRequest, OldNumber, OtherLength, NoTrack, BadPlace}
+use Rattle.calls.specs.declared.Refusal.the-variants.{NotAllowed, BadRequest, OldNumber, OtherLength, NoTrack, BadPlace, Pending}
 use Rattle.calls.specs.declared.Values.{Values}
 use Rattle.calls.specs.declared.Values.the-variants.{Ordered, Extended, Zeros}
 use Rattle.calls.specs.Checks.{Check, check, firstOf}
@@ -18,6 +18,7 @@ use Rattle.train.specs.declared.Train.{Train}
 use Rattle.train.specs.declared.Limit.{Limit}
 use Rattle.acts.specs.declared.Verdict.{Verdict}
 use Rattle.acts.specs.declared.Verdict.the-variants.{TurnedDown, Passed}
+use Rattle.train.specs.Record.{isPending}
 use Rattle.train.specs.Track.{withinLimit}
 use Rattle.train.specs.Report.{reachOf, reported, reportAllowed}
 use Rattle.acts.specs.Acts.{requestInRange, isRepeat, isOld, extended, callBackAllowed, calledBack, holding}
@@ -34,7 +35,7 @@ reporting σ x r =
     let y = reported σ x r in
     record { checks = check (not (reportAllowed σ x r)) NotAllowed ∷ []; gives = Ordered (y .order) (reachOf y); after = y }
 
--- Extend: 10, 11, 12, repeat, 13
+-- Extend: 10, 11, 12, repeat, 17, 13
 abbrev pub extending : Settings → Limit → Train → Extension → Ruling
 extending σ limit x q =
     record {
@@ -42,6 +43,7 @@ extending σ limit x q =
           check (not (requestInRange σ q)) BadRequest
           ∷ check (isOld (x .authority) q) OldNumber
           ∷ check (isRepeat (x .authority) q && not (eqb (q .length) (x .authority .length))) OtherLength
+          ∷ check (not (isRepeat (x .authority) q) && isPending (x .authority)) Pending
           ∷ check (not (isRepeat (x .authority) q) && not (withinLimit limit (x .authority .end + q .length))) NoTrack
           ∷ [];
       gives = Extended (extended x q .authority .end) (isRepeat (x .authority) q);

@@ -1,8 +1,10 @@
 // Decides each act of a train on the line: its checks, what it gives and the record after it. Document 01, "Authorities" and "What is turned
 // down".
 ghost use mathlib.Core.Path.{_≡_};
+ghost use mathlib.Core.Bool.{true};
 ghost use Prim.Native.Nat.{_+_, _^_, _<_};
 ghost use Rattle.train.specs.Record.{authorised};
+ghost use Rattle.train.specs.Report.{computable};
 ghost use Rattle.acts.specs.Acts.{requestInRange, isOld, granted, calledBack, callBackAllowed, holding, mayLeave};
 ghost use Rattle.acts.specs.Decide.{reporting, extending, callingBack, decide as decision, verdict};
 use acts::Verdict;
@@ -51,7 +53,7 @@ fn grant(x: Train, q: Extension) -> Train
 
 // ---- call back, hold and lift
 
-// Judged from the reach, and not from the last head: the order given still counts.
+// Refusal 14. Any place from the head on may be wanted.
 fn call_back_allowed(x: Train, place: u64) -> bool
     ensures { λ r. ⌜ r ≡ callBackAllowed x place ⌝ }
 {
@@ -59,16 +61,21 @@ fn call_back_allowed(x: Train, place: u64) -> bool
         return false;
     }
     let a = x.authority;
-    let reach = train_code::reach_of(x);
-    ranges::in_range(reach, a.end, place)
+    let m = x.motion;
+    ranges::in_range(m.head, a.end, place)
 }
 
-// The end alone moves.
+// From the reach on, the end moves at once. Short of it the order already given may carry the train past the place: the call back is pending.
 fn call_back_to(x: Train, place: u64) -> Train
+    requires { ⌜ computable x ≡ true ⌝ }
     ensures { λ r. ⌜ r ≡ calledBack x place ⌝ }
 {
     let a = x.authority;
     let mut y = x;
+    if place < train_code::reach_of(x) {
+        y.authority = train_code::want(a, place);
+        return y;
+    }
     y.authority = train_code::ending_at(a, place);
     y
 }
@@ -99,7 +106,7 @@ fn report(s: Settings, x: Train, r: Reading) -> Verdict
     Verdict::Passed(Values::Ordered(o, after.reach), y)
 }
 
-// Extend: a new number adds its length if the new end is within the limit, and the last accepted one again adds none.
+// Extend: a new number adds its length if no call back is pending and the new end is within the limit, and the last accepted one again adds none.
 fn extend(s: Settings, limit: Limit, x: Train, q: Extension) -> Verdict
     ensures { λ v. ⌜ v ≡ verdict (extending s limit x q) ⌝ }
 {
@@ -118,6 +125,9 @@ fn extend(s: Settings, limit: Limit, x: Train, q: Extension) -> Verdict
         }
         return Verdict::Passed(Values::Extended(end, true), x);
     }
+    if a.goal != end {
+        return Verdict::TurnedDown(Refusal::Pending);
+    }
     if !train_code::within(limit, end, length) {
         return Verdict::TurnedDown(Refusal::NoTrack);
     }
@@ -126,7 +136,7 @@ fn extend(s: Settings, limit: Limit, x: Train, q: Extension) -> Verdict
     Verdict::Passed(Values::Extended(b.end, false), y)
 }
 
-// Call back: the end becomes a place from reach to end.
+// Call back: the end becomes a place from reach to end, or one from the head on is wanted.
 fn call_back(x: Train, place: u64) -> Verdict
     ensures { λ v. ⌜ v ≡ verdict (callingBack x place) ⌝ }
 {

@@ -17,7 +17,8 @@ use Rattle.desk_line.specs.Desk.{deskAnswered}
 abbrev pub markNumber : Bool → ℕ
 markNumber b = cond b 1 0
 
--- id, length, B, j, head, speed, level, 1 drive or 2 brake, cap (0 with brake), end, starting number, last number, its length, held, penalty
+-- id, length, B, j, head, speed, level, 1 drive or 2 brake, cap (0 with brake), end, starting number, last number, its length, held, penalty,
+-- and the place that a pending call back wants, or the end where none is pending
 abbrev pub recordNumbers : Train → List ℕ
 recordNumbers x =
     x .id
@@ -35,11 +36,12 @@ recordNumbers x =
     ∷ x .authority .length
     ∷ markNumber (x .marks .held)
     ∷ markNumber (x .marks .penalty)
+    ∷ x .authority .goal
     ∷ []
 
 -- each in 14 columns
 abbrev pub recordColumns : List ℕ
-recordColumns = replicate 15 14
+recordColumns = replicate 16 14
 
 -- an output line, with its line feed
 unfoldable pub deskLine : Shown → List ℕ
@@ -52,7 +54,7 @@ deskAnswers s (l ∷ ls) = deskLine (deskAnswered s l .shown) ++ deskAnswers (de
 
 -- ---- in a buffer
 
--- so a line has 255 bytes
+-- so a line has 269 bytes
 abbrev pub deskWidth : ℕ
 deskWidth = answerWidth + total recordColumns + 1
 

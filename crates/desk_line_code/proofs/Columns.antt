@@ -55,7 +55,7 @@ put-next d ns at i more room =
     ∙ ap (paste d at (firstText (i + 1) ns)) wider
 
 -- a record takes its columns
-record-long : (x : Train) → length (textOf recordColumns (recordNumbers x)) ≡ 210
+record-long : (x : Train) → length (textOf recordColumns (recordNumbers x)) ≡ 224
 unfolding textOf
 record-long x = simp (length-append, text-long)
 
@@ -72,7 +72,7 @@ line-ended out s n long room =
 
 -- the answer's columns, the record's and a line feed are an output line
 pub line-put : (out l m ns : List ℕ) (w : Shown) (n : Numbers) → deskWidth ≤ length out → n ≡ numbersOf (w .answer) → ns ≡ recordNumbers (w .train)
-    → l ≡ rendered n out 0 → m ≡ paste l 44 (textOf recordColumns ns) 210 → set m 254 10 ≡ over (deskLine w) out
+    → l ≡ rendered n out 0 → m ≡ paste l 44 (textOf recordColumns ns) 224 → set m 268 10 ≡ over (deskLine w) out
 unfolding deskLine
 line-put out l m ns w n room answers shows first rest =
     let a = answerText n in
@@ -80,14 +80,14 @@ line-put out l m ns w n room answers shows first rest =
     let fits = le-leb 44 (length out) (omega arith) in
     let left : l ≡ paste out 0 a 44 = first ∙ rw fits in
     let size : length a ≡ 44 = answer-long n in
-    let more : length x ≡ 210 = ap (λ (k : List ℕ). length (textOf recordColumns k)) shows ∙ record-long (w .train) in
-    let all : length (a ++ x) ≡ 254 = omega (arith, length-append a x) in
-    ap (λ (k : List ℕ). set k 254 10) (rest ∙ ap (λ (k : List ℕ). paste k 44 x 210) left ∙ paste-next out a x 0 44 210 size more (omega arith))
-    ∙ line-ended out (a ++ x) 254 all (omega arith)
+    let more : length x ≡ 224 = ap (λ (k : List ℕ). length (textOf recordColumns k)) shows ∙ record-long (w .train) in
+    let all : length (a ++ x) ≡ 268 = omega (arith, length-append a x) in
+    ap (λ (k : List ℕ). set k 268 10) (rest ∙ ap (λ (k : List ℕ). paste k 44 x 224) left ∙ paste-next out a x 0 44 224 size more (omega arith))
+    ∙ line-ended out (a ++ x) 268 all (omega arith)
     ∙ ap (λ (k : Numbers). over ((answerText k ++ x) ++ (10 ∷ [])) out) answers
     ∙ ap (λ (k : List ℕ). over ((answerText (numbersOf (w .answer)) ++ textOf recordColumns k) ++ (10 ∷ [])) out) shows
 
--- an output line has 255 bytes
+-- an output line has 269 bytes
 pub line-long : (w : Shown) → length (deskLine w) ≡ deskWidth
 unfolding deskLine
 line-long w =

@@ -160,13 +160,14 @@ fn record_numbers(x: Train) -> [u64; RECORD]
         x.authority.length,
         held,
         penalty,
+        x.authority.goal,
     ]
 }
 
 // The numbers of a record in their columns, after those of the answer.
 fn put_record(out: &mut [u8], numbers: [u64; RECORD])
-    requires { ⌜ 254 ≤ length (now out) ⌝ }
-    ensures { λ _. ⌜ now (out .exit) ≡ paste (now (out .entry)) 44 (textOf recordColumns numbers) 210 ⌝ }
+    requires { ⌜ 268 ≤ length (now out) ⌝ }
+    ensures { λ _. ⌜ now (out .exit) ≡ paste (now (out .entry)) 44 (textOf recordColumns numbers) 224 ⌝ }
 {
     let mut i: usize = 0;
     while i < RECORD {

@@ -2,12 +2,14 @@
 -- Assumes nothing.
 use Prim.Native.Nat.{ℕ, zero, suc, _+_, _≤_}
 use mathlib.Core.Bool.{Bool, true, false, cond, not, _&&_}
+use mathlib.Core.Logic.{by-cases}
 use mathlib.Core.Option.{Option, none, some, Option·map, Option·getD}
 use mathlib.Core.Path.{_≡_, refl, sym, _∙_, subst}
+use native.Mathlib.Decide.{ℕ-discrete}
 use native.Mathlib.Nat.{le-refl}
 use native.Mathlib.Omega.{arith}
-use lib.Dec.{eqb}
-use borrow.Author.Tests.{not-false}
+use lib.Dec.{leb, eqb}
+use borrow.Author.Tests.{not-false, eq-eqb, ne-eqb, lt-ltb, le-ltb, leb-true, leb-false}
 use Rattle.logic.specs.Options.{isSome}
 use Rattle.logic.proofs.Tests.{by-test}
 use Rattle.brake.specs.declared.Figures.{Figures}
@@ -17,7 +19,7 @@ use Rattle.motion.specs.declared.Motion.{Motion}
 use Rattle.motion.specs.declared.Order.{Order}
 use Rattle.motion.specs.declared.Order.the-variants.{Drive, Brake}
 use Rattle.motion.specs.Motion.{stands}
-use Rattle.motion.specs.Orders.{orderCap, isBrake, worstCase}
+use Rattle.motion.specs.Orders.{orderCap, isBrake, worstCase, reach}
 use Rattle.motion.proofs.Domination.{NoWorse}
 use Rattle.motion.proofs.Slowing.{Slowed, slowed-start, slowed-brake}
 use Rattle.calls.specs.declared.Reading.{Reading}
@@ -35,15 +37,16 @@ use Rattle.train.specs.declared.Authority.{Authority}
 use Rattle.train.specs.declared.Train.{Train}
 use Rattle.train.specs.declared.Limit.{Limit}
 use Rattle.train.specs.Track.{withinLimit}
-use Rattle.train.specs.Record.{endingAt}
-use Rattle.train.specs.Report.{reachOf, allowed, motionAfter, moves, orderAfter, isPenalty, reported}
-use Rattle.acts.specs.Acts.{isRepeat, granted, extended}
+use Rattle.train.specs.Record.{endingAt, wanting, isPending}
+use Rattle.train.specs.Report.{reachOf, allowed, motionAfter, moves, orderAfter, isPenalty, settled, reported}
+use Rattle.acts.specs.Acts.{isRepeat, granted, extended, calledBack}
 use Rattle.acts.specs.Decide.{Ruling, decide}
 use Rattle.train.proofs.Records.{held-brakes, penalty-brakes}
 use Rattle.train.proofs.Track.{InLimit, limit-tested, limit-below}
+use Rattle.train.proofs.Pending.{Aims}
 use Rattle.train.proofs.Checks.{report-allowed, allowed-head, allowed-no-worse}
 use Rattle.acts.proofs.Checks.{call-back-allowed}
-use Rattle.safety.specs.History.{Counts, Told, levelAfter, orderIn, brakedAfter, longer, still, toldAct}
+use Rattle.safety.specs.History.{Counts, Told, levelAfter, orderIn, brakedAfter, longer, doneBy, still, toldAct}
 use Rattle.safety.specs.Claim.{recordOf}
 use Rattle.safety.proofs.Train.{Guarded, guarded-report, guarded-still}
 
@@ -76,6 +79,14 @@ level-worst k m Brake = refl
 still-held : (n : Option ℕ) → isSome (Option·map suc n) ≡ isSome n
 still-held none = refl
 still-held (some n) = refl
+
+-- what becomes of a pending call back: the history tells it by a place short of the end
+done-settled : (r : ℕ) (standing : Bool) (head : ℕ) (a : Authority) → a .goal ≤ a .end → doneBy r standing head a ≡ settled a standing head r
+unfolding doneBy settled isPending
+done-settled r standing head a within =
+    by-cases (ℕ-discrete (a .goal) (a .end))
+    (λ same. rw (eq-eqb (a .goal) (a .end) same, le-ltb (a .goal) (a .end) (omega arith)))
+    (λ pending. rw (ne-eqb (a .goal) (a .end) pending, lt-ltb (a .goal) (a .end) (omega arith)))
 
 -- ---- an accepted act
 
@@ -157,13 +168,13 @@ module _ (σ : Settings) (limit : Limit) (x : Told) (steady : Steady σ limit x)
   abbrev stays : Authority → Counts → Told
   stays a n = record { entry = x .entry; figures = x .figures; now = still (x .now) a n }
 
-  steady-still : (a : Authority) (c : Option ℕ) → InLimit limit (a .end) → reachOf (recordOf x) ≤ a .end → Slowing σ (recordOf x) c
+  steady-still : (a : Authority) (c : Option ℕ) → InLimit limit (a .end) → Aims (reachOf (recordOf x)) a → Slowing σ (recordOf x) c
       → Steady σ limit (stays a (record { held = c; braked = x .now .counts .braked }))
   unfolding recordOf
-  steady-still a c limited reach slow =
+  steady-still a c limited aims slow =
       record {
         consist = steady .consist;
-        guarded = guarded-still σ limit (recordOf x) (steady .guarded) a _ limited reach;
+        guarded = guarded-still σ limit (recordOf x) (steady .guarded) a _ limited aims;
         held-slows = go c slow;
         braked-slows = go (x .now .counts .braked) (steady .braked-slows);
       }
@@ -180,57 +191,62 @@ module _ (σ : Settings) (limit : Limit) (x : Told) (steady : Steady σ limit x)
 
   -- b says whether an extension is a repeat
   extended-end : (q : Extension) (b : Bool) → not b && not (withinLimit limit (x .now .authority .end + q .length)) ≡ false
-      → let a = cond b (x .now .authority) (granted (x .now .authority) q) in InLimit limit (a .end) × (x .now .authority .end ≤ a .end)
+      → let a = cond b (x .now .authority) (granted (x .now .authority) q) in
+      InLimit limit (a .end) × Aims (reachOf (recordOf x)) a
   unfolding recordOf
-  extended-end q true e = (steady .guarded .end-in-limit, le-refl _)
-  extended-end q false e = (limit-tested limit _ (not-false _ e), omega arith)
+  extended-end q true e = (steady .guarded .end-in-limit, steady .guarded .aims)
+  extended-end q false e =
+      let reached = steady .guarded .aims .reach in
+      (limit-tested limit _ (not-false _ e), record { reach = omega arith; goal = le-refl _; short = λ pending. absurd (pending refl) })
 
   -- ---- any act
 
   pub act-kept : (a : Act) → firstOf (rulingOn a .checks) ≡ none → Acted a
-  unfolding recordOf toldAct moves isPenalty reported extended isRepeat
+  unfolding recordOf toldAct moves isPenalty reported extended isRepeat calledBack
   act-kept (Report r) e =
       let allows = report-allowed σ (recordOf x) r (passed _ _ _ e .0) in
       let m = motionAfter (recordOf x) r in
       let given = orderAfter σ (recordOf x) m in
       let level = level-worst (x .figures) (recordOf x .motion) (x .now .order) in
       let count = braked-report r allows (stands (x .figures) (m .speed) (m .level)) given refl refl in
-      let same : recordOf (afterAct (Report r)) ≡ reported σ (recordOf x) r = rw (order-told, level, still-held (x .now .counts .held), count .mark) in
+      let done = done-settled (reach (x .figures) m given) (stands (x .figures) (m .speed) (m .level)) (m .head) (x .now .authority) (steady .guarded .aims .goal) in
+      let same : recordOf (afterAct (Report r)) ≡ reported σ (recordOf x) r = rw (order-told, level, still-held (x .now .counts .held), count .mark, done) in
       let g = guarded-report σ limit (recordOf x) (steady .guarded) r allows in
       record {
         told = same;
         keeps = record { consist = steady .consist; guarded = rw same g; held-slows = rw same (held-report r allows (x .now .counts .held) refl); braked-slows = rw (same, order-told, level) (count .slows) };
         onward = allowed-head (recordOf x) r allows;
-        within = (g .within .cap, limit-below limit (g .reach-in-end) (g .end-in-limit));
+        within = (g .within .cap, limit-below limit (g .aims .reach) (g .end-in-limit));
       }
   act-kept (Extend q) e =
-      let last = passed _ _ _ (passed _ _ _ (passed _ _ _ (passed _ _ _ e .1) .1) .1) in
+      let last = passed _ _ _ (passed _ _ _ (passed _ _ _ (passed _ _ _ (passed _ _ _ e .1) .1) .1) .1) in
       let a = longer (x .now .authority) q in
-      let (limited, more) = extended-end q (eqb (q .number) (x .now .authority .number)) (last .0) in
-      let reach = steady .guarded .reach-in-end in
+      let (limited, aims) = extended-end q (eqb (q .number) (x .now .authority .number)) (last .0) in
       let same : recordOf (afterAct (Extend q)) ≡ extended (recordOf x) q = by-test (eqb (q .number) (x .now .authority .number)) (λ e. rw e) (λ e. rw e) in
       record {
         told = same;
-        keeps = steady-still a (x .now .counts .held) limited (omega arith) (steady .held-slows);
+        keeps = steady-still a (x .now .counts .held) limited aims (steady .held-slows);
         onward = le-refl _;
         within = subst (λ (y : Train). InLimit limit (y .authority .end)) same limited;
       }
   act-kept (CallBack p) e =
-      let (low, high) = call-back-allowed (recordOf x) p (passed _ _ _ e .0) in
-      record {
-        told = refl;
-        keeps = steady-still (endingAt (x .now .authority) p) (x .now .counts .held) (limit-below limit high (steady .guarded .end-in-limit)) low (steady .held-slows);
-        onward = le-refl _;
-        within = tt;
-      }
+      let (behind, high) = call-back-allowed (recordOf x) p (passed _ _ _ e .0) in
+      let g = steady .guarded in
+      by-test (leb (reachOf (recordOf x)) p)
+      (λ far.
+      let moved = steady-still (endingAt (x .now .authority) p) (x .now .counts .held) (limit-below limit high (g .end-in-limit)) (record { reach = leb-true _ _ far; goal = le-refl _; short = λ pending. absurd (pending refl) }) (steady .held-slows) in
+      record { told = rw far; keeps = rw far moved; onward = le-refl _; within = tt })
+      (λ short.
+      let waits = steady-still (wanting (x .now .authority) p) (x .now .counts .held) (g .end-in-limit) (record { reach = g .aims .reach; goal = high; short = λ pending. leb-false _ _ short }) (steady .held-slows) in
+      record { told = rw short; keeps = rw short waits; onward = le-refl _; within = tt })
   act-kept Hold e =
       let g = steady .guarded in
       record {
         told = refl;
-        keeps = steady-still (x .now .authority) (some (Option·getD (x .now .counts .held) 0)) (g .end-in-limit) (g .reach-in-end) (slowing-hold (x .now .counts .held) (steady .held-slows));
+        keeps = steady-still (x .now .authority) (some (Option·getD (x .now .counts .held) 0)) (g .end-in-limit) (g .aims) (slowing-hold (x .now .counts .held) (steady .held-slows));
         onward = le-refl _;
         within = tt;
       }
   act-kept Lift e =
       let g = steady .guarded in
-      record { told = refl; keeps = steady-still (x .now .authority) none (g .end-in-limit) (g .reach-in-end) tt; onward = le-refl _; within = tt }
+      record { told = refl; keeps = steady-still (x .now .authority) none (g .end-in-limit) (g .aims) tt; onward = le-refl _; within = tt }

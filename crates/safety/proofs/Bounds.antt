@@ -76,7 +76,7 @@ module _ (σ : Settings) (ρ : InRange σ) (limit : Limit) (x : Train) (t : OnTr
       let m = motionAfter x r in
       let better = allowed-no-worse x r e in
       let worst = worst-reach (x .figures) (x .motion) (x .order) (g .figures) in
-      let reach = g .reach-in-end in
+      let reach = g .aims .reach in
       let within = within-report (x .figures) (σ .maxima) (x .motion) (x .order) m Brake 0 (g .within) better (inl refl) in
       let bounded = within-bounded (x .figures) (σ .maxima) m Brake (g .figures) (ρ .ceiling) (ρ .traction) (omega arith) within in
       bounds-cap (x .figures) m (σ .maxima .traction) bounded ∙ le-leb _ _ (ρ .traction)
@@ -88,7 +88,7 @@ module _ (σ : Settings) (ρ : InRange σ) (limit : Limit) (x : Train) (t : OnTr
       (λ e. rw (track-computable, e, track-after r e))
       (λ e. rw (track-computable, e))
 
-  track-call-back : (place : ℕ) → callBackAllowed x place ≡ between (reachOf x) (x .authority .end) place
+  track-call-back : (place : ℕ) → callBackAllowed x place ≡ between (x .motion .head) (x .authority .end) place
   track-call-back place = call-back-tested x place track-computable
 
 -- ---- all trains
@@ -149,5 +149,5 @@ module _ (o : Opening) (t : Table) (opened : openStep o ≡ outcome (Accepted Ze
   report-judged i h = track-report (left .settings) left-ranges _ (trainAt left i) (track i h)
 
   pub call-back-judged : (i : ℕ) → i < left .count → (place : ℕ)
-      → callBackAllowed (trainAt left i) place ≡ between (reachOf (trainAt left i)) (trainAt left i .authority .end) place
+      → callBackAllowed (trainAt left i) place ≡ between (trainAt left i .motion .head) (trainAt left i .authority .end) place
   call-back-judged i h = track-call-back (left .settings) left-ranges _ (trainAt left i) (track i h)

@@ -1,5 +1,5 @@
 -- Demand 2, a law to a sentence: in its words and order, of every table that a list of calls left on an opened line, in numbers and in the
--- fields of records. What each law cites is said of one train in acts/proofs/Sentences and train/proofs/Sentences, of motion and caps in
+-- fields of records. What each law cites is said of one train in acts/proofs/Sentences, train/proofs/Sentences and Pending, of motion and caps in
 -- motion/proofs/Sentences and OrderSentences, of figures in brake/proofs/Sentences. Entering and taking off, which ask no list, are in line/proofs/Rules.
 -- `step` is what a call comes to by a caller with the right (line/proofs/Rights: call-rightful).
 -- Assumes nothing.
@@ -18,7 +18,7 @@ use Rattle.brake.proofs.Sentences.{Described}
 use Rattle.motion.specs.declared.Motion.{Motion}
 use Rattle.motion.specs.declared.Order.{Order}
 use Rattle.motion.specs.declared.Order.the-variants.{Drive, Brake}
-use Rattle.motion.specs.Motion.{stoppingDistance}
+use Rattle.motion.specs.Motion.{stands, stoppingDistance}
 use Rattle.motion.specs.Orders.{reach}
 use Rattle.motion.proofs.OrderSentences.{GreatestCap, standing-at-end}
 use Rattle.calls.specs.declared.Opening.{Opening}
@@ -26,18 +26,18 @@ use Rattle.calls.specs.declared.Reading.{Reading}
 use Rattle.calls.specs.declared.Extension.{Extension}
 use Rattle.calls.specs.declared.Act.the-variants.{Report, Extend, CallBack, Hold, Lift}
 use Rattle.calls.specs.declared.Call.the-variants.{Own}
-use Rattle.calls.specs.declared.Refusal.the-variants.{NotAllowed, BadRequest, OldNumber, OtherLength, NoTrack, BadPlace}
+use Rattle.calls.specs.declared.Refusal.the-variants.{NotAllowed, BadRequest, OldNumber, OtherLength, NoTrack, BadPlace, Pending}
 use Rattle.calls.specs.declared.Answer.the-variants.{Accepted, Refused}
 use Rattle.calls.specs.declared.Values.the-variants.{Ordered, Extended, Zeros}
 use Rattle.train.specs.declared.Authority.{Authority}
 use Rattle.train.specs.declared.Train.{Train}
 use Rattle.train.specs.Record.{same}
-use Rattle.train.specs.Report.{orderAfter, isPenalty}
+use Rattle.train.specs.Report.{orderAfter, isPenalty, settled}
 use Rattle.train.proofs.Track.{InLimit}
 use Rattle.train.specs.Ranges.{WorksWith}
 use Rattle.train.proofs.Records.{free-order}
 use Rattle.train.proofs.Sentences.{Allows, report-exactly, levelFound, penalty-order, held-order, as-usual, free-drives, free-brakes, mark-exactly}
-use Rattle.acts.proofs.Sentences.{report-9, report-answered, WellFormed, extension-10, extension-11, extension-12, extension-repeated, extension-13, extension-taken, call-back-moves, call-back-14, hold-marks, lift-unmarks}
+use Rattle.acts.proofs.Sentences.{report-9, report-answered, WellFormed, extension-10, extension-11, extension-12, extension-repeated, extension-17, extension-13, extension-taken, call-back-moves, call-back-pends, call-back-14, hold-marks, lift-unmarks}
 use Rattle.table.specs.declared.Table.{Table}
 use Rattle.table.specs.declared.Change.the-variants.{Put}
 use Rattle.table.specs.Table.{placeOf, trainAt, limitAt, changed}
@@ -103,10 +103,14 @@ module _ (o : Opening) (t : Table) (opened : openStep o ≡ outcome (Accepted Ze
       abbrev given : Order
       given = orderAfter (now .settings) x m
 
+      -- what becomes of a pending call back, after the order (train/proofs/Pending: settled-none, settled-there, settled-past, settled-waits)
+      abbrev then : Authority
+      then = settled (x .authority) (stands (x .figures) (m .speed) (m .level)) (m .head) (reach (x .figures) m given)
+
       -- the answer is the order and its reach; the record has what was reported, that order, and the mark of a penalty brake that they make
       pub report-accepted : Allowed
           → step now (Own id (Report r))
-          ≡ outcome (Accepted (Ordered given (reach (x .figures) m given))) (changed now (Put i (same x m given (x .authority) (record { held = x .marks .held; penalty = isPenalty (x .figures) m given }))))
+          ≡ outcome (Accepted (Ordered given (reach (x .figures) m given))) (changed now (Put i (same x m given then (record { held = x .marks .held; penalty = isPenalty (x .figures) m given }))))
       report-accepted so =
           own-step now id i found (Report r) _
           (report-answered (now .settings) (limitAt now i) x r (report-judged o t opened ds i below r ∙ report-exactly x r .1 so))
@@ -117,12 +121,13 @@ module _ (o : Opening) (t : Table) (opened : openStep o ≡ outcome (Accepted Ze
 
       -- "Traction offered is the greatest, within the engine's limit and the speed ceiling, after which the air brake, starting from
       -- nothing, still stops the train at or before its end."
-      -- It holds of a train that is not held and, with document 02, (ii), "for unmarked trains", or at "one with speed 0".
+      -- It holds of a train that is not held and, with document 02, (ii), "for unmarked trains", or at "one with speed 0". With (vi) "the wanted
+      -- place ... stands for the end in demand 2's rules": it is the end where no call back is pending (Pending: goal-within-end).
       abbrev Unmarked : Type 0
       Unmarked = (x .marks .penalty ≡ false) ⊎ (r .speed ≡ 0)
 
       pub traction-offered : x .marks .held ≡ false → Unmarked → (c : ℕ)
-          → (given ≡ Drive c) ↔ GreatestCap (x .figures) (now .settings .maxima) (x .authority .end) m c
+          → (given ≡ Drive c) ↔ GreatestCap (x .figures) (now .settings .maxima) (x .authority .goal) m c
       traction-offered free unmarked c = free-drives (now .settings) x m free unmarked c
 
       -- "a marked train gets brake", as long as it moves
@@ -143,7 +148,7 @@ module _ (o : Opening) (t : Table) (opened : openStep o ≡ outcome (Accepted Ze
 
       -- "At a report, brake is ordered exactly when the train is held or no traction, not even zero, would do"; or when it is marked and moves
       abbrev NoneWouldDo : Type 0
-      NoneWouldDo = (now .settings .maxima .ceiling < r .speed) ⊎ (x .authority .end < r .head + 2 * r .speed + stoppingDistance (x .figures) (r .speed) 0)
+      NoneWouldDo = (now .settings .maxima .ceiling < r .speed) ⊎ (x .authority .goal < r .head + 2 * r .speed + stoppingDistance (x .figures) (r .speed) 0)
 
       pub brake-ordered : (given ≡ Brake) ↔ ((x .marks .held ≡ true) ⊎ (Marked ⊎ NoneWouldDo))
       brake-ordered = (only, exactly)
@@ -167,10 +172,10 @@ module _ (o : Opening) (t : Table) (opened : openStep o ≡ outcome (Accepted Ze
               go (inr (inr (free, unmarked))) = free-brakes (now .settings) x m free unmarked sound .1 none
 
       -- "A standing train at its end gets drive with cap 0."
-      pub standing-drives : x .marks .held ≡ false → r .speed ≡ 0 → x .authority .end ≡ r .head → given ≡ Drive 0
+      pub standing-drives : x .marks .held ≡ false → r .speed ≡ 0 → x .authority .goal ≡ r .head → given ≡ Drive 0
       standing-drives free standing here =
           free-order (now .settings) x m (as-usual (now .settings) x m free (inr standing))
-          ∙ standing-at-end (x .figures) (now .settings .maxima) (x .authority .end) m standing here
+          ∙ standing-at-end (x .figures) (now .settings .maxima) (x .authority .goal) m standing here
 
     -- ---- "authority"
 
@@ -196,27 +201,41 @@ module _ (o : Opening) (t : Table) (opened : openStep o ≡ outcome (Accepted Ze
               own-step now id i found (Extend q) _ (extension-repeated (now .settings) (limitAt now i) x q a above last length)
               ∙ ap (outcome (Accepted (Extended (x .authority .end) true))) (put-same now i x refl)
 
-          -- "A new, well-formed request by a train on the line is refused exactly when the track is not there": 13, or end + length
           module _ (new : x .authority .number < q .number) where
-            pub extend-13 : (InLimit (limitAt now i) (x .authority .end + q .length) → ⊥) → step now (Own id (Extend q)) ≡ outcome (Refused NoTrack) now
-            extend-13 beyond = own-step now id i found (Extend q) _ (extension-13 (now .settings) (limitAt now i) x q a above new beyond)
+            -- 17, "as an exception to the track rule": whether the track is there or not
+            pub extend-17 : (x .authority .goal ≡ x .authority .end → ⊥) → step now (Own id (Extend q)) ≡ outcome (Refused Pending) now
+            extend-17 pending = own-step now id i found (Extend q) _ (extension-17 (now .settings) (limitAt now i) x q a above new pending)
 
-            pub extend-accepted : InLimit (limitAt now i) (x .authority .end + q .length)
-                → let longer : Authority = record { end = x .authority .end + q .length; start = x .authority .start; number = q .number; length = q .length } in
-                step now (Own id (Extend q))
-                ≡ outcome (Accepted (Extended (x .authority .end + q .length) false)) (changed now (Put i (same x (x .motion) (x .order) longer (x .marks))))
-            extend-accepted within = own-step now id i found (Extend q) _ (extension-taken (now .settings) (limitAt now i) x q a above new within)
+            -- "A new, well-formed request by a train on the line is refused exactly when the track is not there": 13, or end + length
+            module _ (free : x .authority .goal ≡ x .authority .end) where
+              pub extend-13 : (InLimit (limitAt now i) (x .authority .end + q .length) → ⊥) → step now (Own id (Extend q)) ≡ outcome (Refused NoTrack) now
+              extend-13 beyond = own-step now id i found (Extend q) _ (extension-13 (now .settings) (limitAt now i) x q a above new free beyond)
 
-    -- 14, and "the end becomes a named place from reach to end, both included"
-    pub call-back-refused : (place : ℕ) → (place < reach (x .figures) (x .motion) (x .order)) ⊎ (x .authority .end < place)
+              pub extend-accepted : InLimit (limitAt now i) (x .authority .end + q .length)
+                  → let longer : Authority =
+                  record { end = x .authority .end + q .length; goal = x .authority .end + q .length; start = x .authority .start; number = q .number; length = q .length } in
+                  step now (Own id (Extend q))
+                  ≡ outcome (Accepted (Extended (x .authority .end + q .length) false)) (changed now (Put i (same x (x .motion) (x .order) longer (x .marks))))
+              extend-accepted within = own-step now id i found (Extend q) _ (extension-taken (now .settings) (limitAt now i) x q a above new free within)
+
+    -- 14, "a place behind the head or beyond the end"
+    pub call-back-refused : (place : ℕ) → (place < x .motion .head) ⊎ (x .authority .end < place)
         → step now (Own id (CallBack place)) ≡ outcome (Refused BadPlace) now
     call-back-refused place out = own-step now id i found (CallBack place) _ (call-back-14 (now .settings) (limitAt now i) x place out)
 
+    -- "the end becomes a named place from reach to end, both included"
     pub call-back-accepted : (place : ℕ) → reach (x .figures) (x .motion) (x .order) ≤ place → place ≤ x .authority .end
-        → let nearer : Authority = record { end = place; start = x .authority .start; number = x .authority .number; length = x .authority .length } in
+        → let nearer : Authority = record { end = place; goal = place; start = x .authority .start; number = x .authority .number; length = x .authority .length } in
         step now (Own id (CallBack place)) ≡ outcome (Accepted Zeros) (changed now (Put i (same x (x .motion) (x .order) nearer (x .marks))))
     call-back-accepted place low high =
         own-step now id i found (CallBack place) _ (call-back-moves (now .settings) (limitAt now i) x place (always-computable o t opened ds i below) low high)
+
+    -- "from the train's head up to just short of its reach": pending
+    pub call-back-pending : (place : ℕ) → x .motion .head ≤ place → place < reach (x .figures) (x .motion) (x .order) → place ≤ x .authority .end
+        → let waiting : Authority = record { end = x .authority .end; goal = place; start = x .authority .start; number = x .authority .number; length = x .authority .length } in
+        step now (Own id (CallBack place)) ≡ outcome (Accepted Zeros) (changed now (Put i (same x (x .motion) (x .order) waiting (x .marks))))
+    call-back-pending place low short high =
+        own-step now id i found (CallBack place) _ (call-back-pends (now .settings) (limitAt now i) x place (always-computable o t opened ds i below) low short high)
 
     -- hold and lift are taken always, and change their mark alone: "Lifting a hold does not shorten" a penalty brake
     pub hold-accepted : step now (Own id Hold) ≡ outcome (Accepted Zeros) (changed now (Put i (same x (x .motion) (x .order) (x .authority) (record { held = true; penalty = x .marks .penalty }))))

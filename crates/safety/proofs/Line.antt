@@ -73,7 +73,7 @@ lined-wider σ a b wider (x ∷ xs) l =
       figures = g .figures;
       rear-on-line = g .rear-on-line;
       end-in-limit = wider _ (g .end-in-limit);
-      reach-in-end = g .reach-in-end;
+      aims = g .aims;
       within = g .within;
     } in
     (record { consist = l .0 .consist; guarded = guarded; held-slows = l .0 .held-slows; braked-slows = l .0 .braked-slows }, l .1, l .2)

@@ -12,7 +12,7 @@ use Rattle.motion.specs.Motion.{nextLevel, stands}
 use Rattle.motion.specs.Count.{cyclesToStand}
 use Rattle.motion.specs.Starred.{fullGiven}
 use Rattle.train.specs.Track.{stepsOf}
-use Rattle.safety.specs.History.{isAccepted, toldAct, toldCall, toldBy, told, rearOf}
+use Rattle.safety.specs.History.{doneBy, isAccepted, toldAct, toldCall, toldBy, told, rearOf}
 use Rattle.safety.specs.Claim.{Claim}
 use Rattle.safety.specs.Worked.{sessionLine, loadedEnters, heldCount, rearOffTheLine, headPastEnd, sameCapEachCycle, endTooNear, endOffTheLine, overlapOfTwo, heldAndMoving, brakedAndMoving, figuresMadeUp}
 
@@ -25,12 +25,12 @@ not-above : (n : ℕ) → suc n ≤ n → ⊥
 not-above n h = omega arith
 
 pub head-refuted : Claim sessionLine headPastEnd → ⊥
-unfolding Claim isAccepted toldAct toldCall toldBy told
+unfolding Claim doneBy isAccepted toldAct toldCall toldBy told
 head-refuted claim = not-above 14295120000 (claim .0 .head-within-end)
 
 -- a worthless controller, "with a cap above 0"
 pub same-cap-refuted : Claim sessionLine sameCapEachCycle → ⊥
-unfolding Claim isAccepted toldAct toldCall toldBy told
+unfolding Claim doneBy isAccepted toldAct toldCall toldBy told
 same-cap-refuted claim = not-above 14295120000 (claim .0 .head-within-end)
 
 pub rear-refuted : Claim sessionLine rearOffTheLine → ⊥

@@ -7,6 +7,8 @@ use native.Mathlib.Nat.{le-refl, le-trans}
 use native.Mathlib.Omega.{arith}
 use Rattle.brake.specs.declared.Figures.{Figures}
 use Rattle.brake.specs.Consist.{Sound}
+use Rattle.motion.specs.Motion.{stands}
+use Rattle.motion.specs.Orders.{reach}
 use Rattle.motion.proofs.Cycles.{full-stands}
 use Rattle.motion.proofs.Domination.{head-reach, reach-stands}
 use Rattle.motion.proofs.Orders.{order-keeps, Within, within-entering, within-report}
@@ -21,20 +23,21 @@ use Rattle.train.specs.Record.{entering, same}
 use Rattle.train.specs.Track.{stepsOf}
 use Rattle.train.specs.Report.{reachOf, allowed, motionAfter, goalOf, orderAfter, reported}
 use Rattle.train.proofs.Records.{may-order}
-use Rattle.train.proofs.Track.{InLimit}
+use Rattle.train.proofs.Track.{InLimit, limit-below}
+use Rattle.train.proofs.Pending.{Aims, settled-aims, stopped-past}
 use Rattle.train.proofs.Checks.{allowed-head, allowed-no-worse}
 
--- A train with this limit: its rear is on the line, its end within the limit and its reach within its end. Its figures and its
--- motion are such as the laws of motion ask for.
+-- A train with this limit: its rear is on the line, its end within the limit, its reach and the place that a call back wants within its end.
+-- Its figures and its motion are such as the laws of motion ask for.
 pub record Guarded (σ : Settings) (limit : Limit) (x : Train) : Type 0 where
   pub figures : Sound (x .figures)
   pub rear-on-line : stepsOf (x .length) ≤ x .motion .head
   pub end-in-limit : InLimit limit (x .authority .end)
-  pub reach-in-end : reachOf x ≤ x .authority .end
+  pub aims : Aims (reachOf x) (x .authority)
   pub within : Within (x .figures) (σ .maxima) (x .motion) (x .order)
 
 pub guarded-head : (σ : Settings) (limit : Limit) (x : Train) → Guarded σ limit x → x .motion .head ≤ x .authority .end
-guarded-head σ limit x g = le-trans (head-reach (x .figures) (x .motion) (x .order)) (g .reach-in-end)
+guarded-head σ limit x g = le-trans (head-reach (x .figures) (x .motion) (x .order)) (g .aims .reach)
 
 pub guarded-entering : (σ : Settings) (limit : Limit) (e : Entry) (k : Figures)
     → Sound k → stepsOf (e .length) ≤ e .head → InLimit limit (e .head) → Guarded σ limit (entering e k)
@@ -45,7 +48,7 @@ guarded-entering σ limit e k sound long limited =
       figures = sound;
       rear-on-line = long;
       end-in-limit = limited;
-      reach-in-end = omega arith;
+      aims = record { reach = omega arith; goal = le-refl _; short = λ pending. absurd (pending refl) };
       within = within-entering k (σ .maxima) (x .motion) refl refl;
     }
 
@@ -60,16 +63,17 @@ module _ (σ : Settings) (limit : Limit) (x : Train) (g : Guarded σ limit x) wh
       let o = orderAfter σ x m in
       let better = allowed-no-worse x r e in
       let order = may-order σ x m in
+      let reached = order-keeps k (σ .maxima) (x .motion) (x .order) m o (goalOf x) (x .authority .end) (g .figures) better (g .aims .reach) (g .aims .goal) order in
+      let (nearer, aims) = settled-aims (x .authority) (stands k (m .speed) (m .level)) (m .head) (reach k m o) (g .aims .goal) (head-reach k m o) reached (stopped-past σ x m (g .figures)) in
       record {
         figures = g .figures;
         rear-on-line = le-trans (g .rear-on-line) (allowed-head x r e);
-        end-in-limit = g .end-in-limit;
-        reach-in-end =
-            order-keeps k (σ .maxima) (x .motion) (x .order) m o (goalOf x) (x .authority .end) (g .figures) better (g .reach-in-end) (le-refl _) order;
+        end-in-limit = limit-below limit nearer (g .end-in-limit);
+        aims = aims;
         within = within-report k (σ .maxima) (x .motion) (x .order) m o (goalOf x) (g .within) better order;
       }
 
   -- the other acts leave motion and order as they are
-  pub guarded-still : (a : Authority) (s : Marks) → InLimit limit (a .end) → reachOf x ≤ a .end → Guarded σ limit (same x (x .motion) (x .order) a s)
-  guarded-still a s limited reach =
-      record { figures = g .figures; rear-on-line = g .rear-on-line; end-in-limit = limited; reach-in-end = reach; within = g .within }
+  pub guarded-still : (a : Authority) (s : Marks) → InLimit limit (a .end) → Aims (reachOf x) a → Guarded σ limit (same x (x .motion) (x .order) a s)
+  guarded-still a s limited aims =
+      record { figures = g .figures; rear-on-line = g .rear-on-line; end-in-limit = limited; aims = aims; within = g .within }

@@ -10,13 +10,14 @@ use Rattle.motion.specs.Bounds.{inBounds}
 use Rattle.calls.specs.Checks.{firstOf}
 use Rattle.rights.specs.Rights.{mayAsk}
 use Rattle.train.specs.Ranges.{settingsInRange}
+use Rattle.train.specs.Record.{isPending}
 use Rattle.train.specs.Track.{stepsOf, limitBehind}
-use Rattle.train.specs.Report.{allowed, moves, mustBrake, orderAfter, isPenalty, reported, computable, reportAllowed}
-use Rattle.acts.specs.Acts.{requestInRange, isRepeat, extended, isOld, callBackAllowed, mayLeave}
+use Rattle.train.specs.Report.{allowed, moves, mustBrake, orderAfter, isPenalty, settled, reported, computable, reportAllowed}
+use Rattle.acts.specs.Acts.{requestInRange, isRepeat, extended, isOld, calledBack, callBackAllowed, mayLeave}
 use Rattle.table.specs.Table.{placeIn, placeOf, aheadOf}
 use Rattle.line.specs.Decide.{openDecision, enterDecision, actDecision, takeOffDecision, decideOn, decided}
 use Rattle.line.specs.Step.{openStep}
-use Rattle.safety.specs.History.{history, isAccepted, toldAct, without, toldCall, toldBy, told, rearOf}
+use Rattle.safety.specs.History.{history, isAccepted, doneBy, toldAct, without, toldCall, toldBy, told, rearOf}
 use Rattle.safety.specs.Worked.{sessionLine, workedDeeds, triedBeside, triedDeeds, triedAnswers, answersTo, wordsAfter, triedWords, workedWords}
 
 pub worked :
@@ -26,5 +27,5 @@ pub worked :
     -- what previews are answered, and that they change nothing
     × (answersTo sessionLine triedDeeds ≡ triedAnswers)
     × (wordsAfter sessionLine triedDeeds ≡ triedWords)
-unfolding ceilDiv between carOf fullBrake applicationTime applicationCycles sheetEntry entryFor brakeCycles figuresWith figuresBy figuresOf brakeTravel brakeSpeed nextLevel driveTravel driveSpeed stands brakedCycle firstCycles enoughCycles brakedRun totalTravel stoppingDistance stoppingPlace capFits greatest orderFor inBounds firstOf mayAsk settingsInRange requestInRange stepsOf limitBehind allowed moves mustBrake orderAfter isPenalty reported computable reportAllowed isRepeat extended isOld callBackAllowed mayLeave placeIn placeOf aheadOf openDecision enterDecision actDecision takeOffDecision decideOn decided openStep history isAccepted toldAct without toldCall toldBy told rearOf
+unfolding ceilDiv between carOf fullBrake applicationTime applicationCycles sheetEntry entryFor brakeCycles figuresWith figuresBy figuresOf brakeTravel brakeSpeed nextLevel driveTravel driveSpeed stands brakedCycle firstCycles enoughCycles brakedRun totalTravel stoppingDistance stoppingPlace capFits greatest orderFor inBounds firstOf mayAsk settingsInRange requestInRange stepsOf limitBehind allowed moves mustBrake orderAfter isPenalty isPending settled reported computable reportAllowed isRepeat extended isOld calledBack callBackAllowed mayLeave placeIn placeOf aheadOf openDecision enterDecision actDecision takeOffDecision decideOn decided openStep history isAccepted doneBy toldAct without toldCall toldBy told rearOf
 worked = (refl, refl, refl, refl)

@@ -1,13 +1,14 @@
--- Document 01, "Authorities", and document 02, (ii): the words of demand 3. They come from the opening, the calls and their answers alone.
+-- Document 01, "Authorities", and document 02, (ii) and (vi): the words of demand 3. They come from the opening, the calls and their answers alone.
 use Prim.Native.Nat.{ℕ, suc, _+_, _-_}
-use mathlib.Core.Bool.{Bool, true, false, cond}
+use mathlib.Core.Bool.{Bool, true, false, cond, _&&_}
 use mathlib.Core.Option.{Option, none, some, Option·map, Option·getD}
 use mathlib.Core.List.{List, [], _∷_, _++_, map, foldl}
-use lib.Dec.{eqb}
+use lib.Dec.{leb, ltb, eqb}
 use Rattle.brake.specs.declared.Figures.{Figures}
 use Rattle.motion.specs.declared.Order.{Order}
 use Rattle.motion.specs.declared.Order.the-variants.{Drive, Brake}
 use Rattle.motion.specs.Motion.{nextLevel, releasedLevel, stands}
+use Rattle.motion.specs.Orders.{reach}
 use Rattle.calls.specs.declared.Opening.{Opening}
 use Rattle.calls.specs.declared.Entry.{Entry}
 use Rattle.calls.specs.declared.Reading.{Reading}
@@ -88,9 +89,10 @@ pub record Told : Type 0 where
 abbrev pub stateOf : Reading → ℕ → Order → Authority → Counts → State
 stateOf r l o a n = record { last = r; level = l; order = o; authority = a; counts = n }
 
--- the track that a train is lent, up to the end e: s is the starting number of its stay, n the last accepted one, and l its length
+-- the track that a train is lent, up to the end e, with no call back pending: s is the starting number of its stay, n the last accepted one,
+-- and l its length
 abbrev pub lent : ℕ → ℕ → ℕ → ℕ → Authority
-lent e s n l = record { end = e; start = s; number = n; length = l }
+lent e s n l = record { end = e; goal = e; start = s; number = n; length = l }
 
 -- Enter is answered with B and j. The train stands at its head under full brake and has no other track. Nothing is counted.
 abbrev pub toldEntering : Entry → Numbers → Told
@@ -118,6 +120,20 @@ brakedAfter false (Drive c) n = Option·map suc n
 abbrev pub longer : Authority → Extension → Authority
 longer a q = cond (eqb (q .number) (a .number)) a (lent (a .end + q .length) (a .start) (q .number) (q .length))
 
+-- the same up to another end
+abbrev pub upTo : ℕ → Authority → Authority
+upTo p a = lent p (a .start) (a .number) (a .length)
+
+-- a call back moves the end to a place that the reach r is not past; to any other place it is pending, and the end stays
+abbrev pub nearer : ℕ → ℕ → Authority → Authority
+nearer r p a = cond (leb r p) (upTo p a) (record { end = a .end; goal = p; start = a .start; number = a .number; length = a .length })
+
+-- A pending call back is done by a report whose answer gives a reach r at or before its place, or by one with which the train stands past it:
+-- the end moves to the place, or to the head.
+unfoldable pub doneBy : ℕ → Bool → ℕ → Authority → Authority
+doneBy r standing head a =
+    cond (ltb (a .goal) (a .end)) (cond (leb r (a .goal)) (upTo (a .goal) a) (cond (standing && ltb (a .goal) head) (upTo head a) a)) a
+
 -- another authority, or other counts
 abbrev pub still : State → Authority → Counts → State
 still s a n = stateOf (s .last) (s .level) (s .order) a n
@@ -126,10 +142,11 @@ still s a n = stateOf (s .last) (s .level) (s .order) a n
 unfoldable pub toldAct : Figures → State → Numbers → Act → State
 toldAct k s n (Report r) =
     let level = levelAfter k (s .order) (s .level) in
-    stateOf r level (orderIn n) (s .authority)
+    stateOf r level (orderIn n) (doneBy (n .third) (stands k (r .speed) level) (r .head) (s .authority))
     (record { held = Option·map suc (s .counts .held); braked = brakedAfter (stands k (r .speed) level) (orderIn n) (s .counts .braked) })
 toldAct k s n (Extend q) = still s (longer (s .authority) q) (s .counts)
-toldAct k s n (CallBack p) = still s (lent p (s .authority .start) (s .authority .number) (s .authority .length)) (s .counts)
+toldAct k s n (CallBack p) =
+    still s (nearer (reach k (record { head = s .last .head; speed = s .last .speed; level = s .level }) (s .order)) p (s .authority)) (s .counts)
 -- held already, it goes on counting
 toldAct k s n Hold = still s (s .authority) (record { held = some (Option·getD (s .counts .held) 0); braked = s .counts .braked })
 toldAct k s n Lift = still s (s .authority) (record { held = none; braked = s .counts .braked })

@@ -78,11 +78,11 @@ limit-behind σ a place = (in-behind σ a place, behind-in σ a place)
 -- ---- the authority
 
 -- "end = head ... and a starting request number for this stay"
-pub fresh-authority : (h s : ℕ) → freshAuthority h s ≡ record { end = h; start = s; number = s; length = 0 }
+pub fresh-authority : (h s : ℕ) → freshAuthority h s ≡ record { end = h; goal = h; start = s; number = s; length = 0 }
 fresh-authority h s = refl
 
--- another end, and nothing else
-pub another-end : (a : Authority) (place : ℕ) → endingAt a place ≡ record { end = place; start = a .start; number = a .number; length = a .length }
+-- another end, where orders aim too, and nothing else
+pub another-end : (a : Authority) (place : ℕ) → endingAt a place ≡ record { end = place; goal = place; start = a .start; number = a .number; length = a .length }
 another-end a place = refl
 
 -- ---- the record
@@ -95,7 +95,7 @@ pub entered : (e : Entry) (k : Figures) → entering e k
       figures = k;
       motion = record { head = e .head; speed = 0; level = k .full };
       order = Brake;
-      authority = record { end = e .head; start = e .start; number = e .start; length = 0 };
+      authority = record { end = e .head; goal = e .head; start = e .start; number = e .start; length = 0 };
       marks = record { held = false; penalty = false };
     }
 entered e k = refl
@@ -180,13 +180,14 @@ module _ (σ : Settings) (x : Train) (m : Motion) where
             (λ e. by-test (x .marks .penalty) (λ f. rw (f, e, free)) (λ f. rw (f, free)))
 
     -- "Otherwise drive with the greatest cap c from 0 to A where v + c is at most V and the reach is at most the end of authority."
-    pub free-drives : (c : ℕ) → (orderAfter σ x m ≡ Drive c) ↔ GreatestCap (x .figures) (σ .maxima) (x .authority .end) m c
-    free-drives c = rw (free-order σ x m as-usual) (drive-exactly (x .figures) (σ .maxima) (x .authority .end) m c)
+    -- Document 02, (vi): "Orders are then worked out against the wanted place, which stands for the end in demand 2's rules".
+    pub free-drives : (c : ℕ) → (orderAfter σ x m ≡ Drive c) ↔ GreatestCap (x .figures) (σ .maxima) (x .authority .goal) m c
+    free-drives c = rw (free-order σ x m as-usual) (drive-exactly (x .figures) (σ .maxima) (x .authority .goal) m c)
 
     -- "No such c: brake."
     pub free-brakes : Sound (x .figures) → (orderAfter σ x m ≡ Brake)
-        ↔ ((σ .maxima .ceiling < m .speed) ⊎ (x .authority .end < m .head + 2 * m .speed + stoppingDistance (x .figures) (m .speed) 0))
-    free-brakes s = rw (free-order σ x m as-usual) (brake-at-zero (x .figures) (σ .maxima) (x .authority .end) m s)
+        ↔ ((σ .maxima .ceiling < m .speed) ⊎ (x .authority .goal < m .head + 2 * m .speed + stoppingDistance (x .figures) (m .speed) 0))
+    free-brakes s = rw (free-order σ x m as-usual) (brake-at-zero (x .figures) (σ .maxima) (x .authority .goal) m s)
 
 -- ---- the mark
 

@@ -1,6 +1,7 @@
--- Document 01, "Orders" and "Authorities", and document 02, (ii): a train record, in parts. A part that a call sets has a definition for its value on entering.
+-- Document 01, "Orders" and "Authorities", and document 02, (ii) and (vi): a train record, in parts. A part that a call sets has a definition for its value on entering.
 use Prim.Native.Nat.{ℕ}
-use mathlib.Core.Bool.{false}
+use mathlib.Core.Bool.{Bool, false, not}
+use lib.Dec.{eqb}
 use Rattle.brake.specs.declared.Figures.{Figures}
 use Rattle.brake.specs.declared.FiguresFound.{FiguresFound}
 use Rattle.brake.specs.Consist.{figuresOf}
@@ -20,9 +21,9 @@ trainOf id l k m o a ms = record { id = id; length = l; figures = k; motion = m;
 abbrev pub figuresFor : Settings → Entry → FiguresFound
 figuresFor σ e = figuresOf (e .load) (e .length)
 
--- an authority up to the end e, in a stay with the starting number s: n is the last accepted number, and l its length
+-- an authority up to the end e, in a stay with the starting number s: n is the last accepted number, and l its length; no call back is pending
 abbrev pub authorityTo : ℕ → ℕ → ℕ → ℕ → Authority
-authorityTo e s n l = record { end = e; start = s; number = n; length = l }
+authorityTo e s n l = record { end = e; goal = e; start = s; number = n; length = l }
 
 -- Enter: end = head, and a starting request number for this stay; no length has been asked for
 abbrev pub freshAuthority : ℕ → ℕ → Authority
@@ -31,6 +32,14 @@ freshAuthority h s = authorityTo h s s 0
 -- the same with another end
 abbrev pub endingAt : Authority → ℕ → Authority
 endingAt a place = authorityTo place (a .start) (a .number) (a .length)
+
+-- the same with a pending call back that wants this place: the end stays for now
+abbrev pub wanting : Authority → ℕ → Authority
+wanting a place = record { end = a .end; goal = place; start = a .start; number = a .number; length = a .length }
+
+-- a place short of the end is wanted
+unfoldable pub isPending : Authority → Bool
+isPending a = not (eqb (a .goal) (a .end))
 
 -- not held, and no penalty brake
 abbrev pub freshMarks : Marks

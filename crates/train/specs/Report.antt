@@ -1,7 +1,8 @@
--- Document 01, "Orders", and document 02, (ii): a report at the end of a cycle, the order that it gets, and the mark of a penalty brake.
+-- Document 01, "Orders", and document 02, (ii) and (vi): a report at the end of a cycle, the order that it gets, the mark of a penalty brake,
+-- and what becomes of a pending call back.
 use Prim.Native.Nat.{ℕ}
-use mathlib.Core.Bool.{Bool, true, false, not, _&&_, _||_}
-use lib.Dec.{leb}
+use mathlib.Core.Bool.{Bool, true, false, not, cond, _&&_, _||_}
+use lib.Dec.{leb, ltb}
 use Rattle.brake.specs.declared.Figures.{Figures}
 use Rattle.motion.specs.declared.Motion.{Motion}
 use Rattle.motion.specs.declared.Order.{Order}
@@ -11,8 +12,9 @@ use Rattle.motion.specs.Orders.{orderCap, isBrake, worstCase, reach, orderFor}
 use Rattle.motion.specs.Bounds.{inBounds}
 use Rattle.calls.specs.declared.Reading.{Reading}
 use Rattle.train.specs.declared.Settings.{Settings}
+use Rattle.train.specs.declared.Authority.{Authority}
 use Rattle.train.specs.declared.Train.{Train}
-use Rattle.train.specs.Record.{same}
+use Rattle.train.specs.Record.{endingAt, isPending, same}
 
 -- worst case of a train's last order
 abbrev pub worstOf : Train → Motion
@@ -31,9 +33,9 @@ allowed x r = leb (x .motion .head) (r .head) && leb (r .head) (worstOf x .head)
 abbrev pub motionAfter : Train → Reading → Motion
 motionAfter x r = record { head = r .head; speed = r .speed; level = worstOf x .level }
 
--- the place that orders are worked out against: the end of authority
+-- the place that orders are worked out against: the end of authority, or the place that a pending call back wants
 abbrev pub goalOf : Train → ℕ
-goalOf x = x .authority .end
+goalOf x = x .authority .goal
 
 -- a train that does not stand moves
 unfoldable pub moves : Figures → Motion → Bool
@@ -51,9 +53,19 @@ orderAfter σ x m = elim (mustBrake x m) [ true ↦ Brake | false ↦ orderFor (
 unfoldable pub isPenalty : Figures → Motion → Order → Bool
 isPenalty k m o = isBrake o && moves k m
 
+-- A pending call back after a report's order with reach r: once the reach is at or before the place that it wants, the end moves there; of a
+-- train that stands with its head past that place, the end becomes the head. Either ends the call back.
+unfoldable pub settled : Authority → Bool → ℕ → ℕ → Authority
+settled a standing head r =
+    cond (isPending a)
+    (cond (leb r (a .goal)) (endingAt a (a .goal)) (cond (standing && ltb (a .goal) head) (endingAt a head) a))
+    a
+
 -- the record with this motion and order; a penalty brake marks it, and any other order takes the mark away
 abbrev pub ordered : Train → Motion → Order → Train
-ordered x m o = same x m o (x .authority) (record { held = x .marks .held; penalty = isPenalty (x .figures) m o })
+ordered x m o =
+    same x m o (settled (x .authority) (stands (x .figures) (m .speed) (m .level)) (m .head) (reach (x .figures) m o))
+    (record { held = x .marks .held; penalty = isPenalty (x .figures) m o })
 
 -- the record after an accepted report
 unfoldable pub reported : Settings → Train → Reading → Train

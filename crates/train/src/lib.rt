@@ -12,10 +12,12 @@ pub struct Settings {
     pub maxima: Maxima,
 }
 
-// The stretch of track that a train is lent. The end is the end of authority. The number is the last accepted request number,
-// and length is the one that it asked for; before the first one they are the starting number and 0.
+// The stretch of track that a train is lent. The end is the end of authority. The goal is the place that orders are worked out against: the
+// place that a pending call back wants, or the end where none is pending. The number is the last accepted request number, and length is
+// the one that it asked for; before the first one they are the starting number and 0.
 pub struct Authority {
     pub end: u64,
+    pub goal: u64,
     pub start: u64,
     pub number: u64,
     pub length: u64,

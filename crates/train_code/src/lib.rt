@@ -4,12 +4,13 @@ ghost use mathlib.Core.Bool.{true};
 ghost use mathlib.Core.Option.{some};
 ghost use Prim.Native.Nat.{_+_, _^_, _≤_, _<_};
 ghost use Rattle.ranges.specs.Ranges.{greatestLength};
+ghost use Rattle.motion.specs.Orders.{reach as reachUnder};
 ghost use Rattle.motion_code.specs.Offers.{offer};
 ghost use Rattle.motion.specs.Bounds.{Bounded};
 ghost use Rattle.train.specs.Ranges.{settingsInRange, settingsOf};
-ghost use Rattle.train.specs.Record.{figuresFor, authorityTo, freshAuthority, endingAt, freshMarks, entering};
+ghost use Rattle.train.specs.Record.{figuresFor, authorityTo, freshAuthority, endingAt, wanting, freshMarks, entering};
 ghost use Rattle.train.specs.Track.{stepsOf, limitBehind, withinLimit};
-ghost use Rattle.train.specs.Report.{worstOf, reachOf, allowed, motionAfter, moves, mustBrake, orderAfter, isPenalty, ordered, reported, computable, reportAllowed};
+ghost use Rattle.train.specs.Report.{worstOf, reachOf, allowed, motionAfter, moves, mustBrake, orderAfter, isPenalty, settled, ordered, reported, computable, reportAllowed};
 ghost use Rattle.train_code.specs.Report.{withReach};
 use brake::Figures;
 use brake::FiguresFound;
@@ -110,12 +111,13 @@ pub fn figures_for(s: Settings, e: Entry) -> FiguresFound
     brake::figures_of(e.load, e.length)
 }
 
-// Every authority is made here.
+// Every authority is made here. No call back is pending in it: orders are worked out against its end.
 pub fn authority_to(end: u64, start: u64, number: u64, length: u64) -> Authority
     ensures { λ r. ⌜ r ≡ authorityTo end start number length ⌝ }
 {
     Authority {
         end,
+        goal: end,
         start,
         number,
         length,
@@ -134,6 +136,15 @@ pub fn ending_at(a: Authority, place: u64) -> Authority
     ensures { λ r. ⌜ r ≡ endingAt a place ⌝ }
 {
     authority_to(place, a.start, a.number, a.length)
+}
+
+// A pending call back: the place is wanted, and the end stays for now.
+pub fn want(a: Authority, place: u64) -> Authority
+    ensures { λ r. ⌜ r ≡ wanting a place ⌝ }
+{
+    let mut b = a;
+    b.goal = place;
+    b
 }
 
 pub fn fresh_marks() -> Marks
@@ -166,12 +177,37 @@ pub fn new_train(e: Entry, k: Figures) -> Train
     }
 }
 
-// Report: another motion and order, and the mark that they make. The record is written anew, because an order is not stored to.
-fn with_order(x: Train, m: Motion, o: Order) -> Train
+// Where a pending call back ends: at the place that it wants, once the order just given stops the train there, or at the head of a train that
+// stands past it.
+fn settle(a: Authority, standing: bool, head: u64, reach: u64) -> Authority
+    ensures { λ r. ⌜ r ≡ settled a standing head reach ⌝ }
+{
+    let goal = a.goal;
+    if goal == a.end {
+        return a;
+    }
+    if reach <= goal {
+        return ending_at(a, goal);
+    }
+    if !standing {
+        return a;
+    }
+    if goal < head {
+        return ending_at(a, head);
+    }
+    a
+}
+
+// Report: another motion and order, the mark that they make, and what they make of a pending call back. The reach is that of the order. The
+// record is written anew, because an order is not stored to.
+fn with_order(x: Train, m: Motion, o: Order, reach: u64) -> Train
+    requires { ⌜ reach ≡ reachUnder (x .figures) m o ⌝ }
     ensures { λ r. ⌜ r ≡ ordered x m o ⌝ }
 {
     let k = x.figures;
     let a = x.authority;
+    let standing = motion_code::standing(k, m.speed, m.level);
+    let b = settle(a, standing, m.head, reach);
     let mut s = x.marks;
     s.penalty = is_penalty(k, m, o);
     Train {
@@ -180,7 +216,7 @@ fn with_order(x: Train, m: Motion, o: Order) -> Train
         figures: k,
         motion: m,
         order: o,
-        authority: a,
+        authority: b,
         marks: s,
     }
 }
@@ -208,7 +244,7 @@ fn worst_of(x: Train) -> Motion
     motion_code::worst_case(k, m, o)
 }
 
-// A call back may not come before it.
+// A call back to a place short of it is pending.
 pub fn reach_of(x: Train) -> u64
     requires { ⌜ computable x ≡ true ⌝ }
     ensures { λ r. ⌜ r ≡ reachOf x ⌝ }
@@ -294,7 +330,7 @@ fn order_after(s: Settings, x: Train, m: Motion) -> Offer
     }
     let maxima = s.maxima;
     let a = x.authority;
-    caps_code::order_for(k, maxima, a.end, m)
+    caps_code::order_for(k, maxima, a.goal, m)
 }
 
 // The record after a report that is allowed, and its reach, which the search for the order has found.
@@ -305,8 +341,9 @@ pub fn report_on(s: Settings, x: Train, r: Reading) -> Reported
     let m = motion_after(x, r);
     let given = order_after(s, x, m);
     let o = given.order;
+    let reach = given.reach;
     Reported {
-        train: with_order(x, m, o),
-        reach: given.reach,
+        train: with_order(x, m, o, reach),
+        reach,
     }
 }

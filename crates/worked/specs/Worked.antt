@@ -154,9 +154,16 @@ firstPart =
     ∷ line " 3         65535   20003162050        200000             0             0         65535" " 0             1        100000   20015759102"
     ∷ line " 3         65535   20003662050        300000             0             0         65535" " 0             1        100000   20022924145"
     ∷ line " 3         65535   20004362050        400000             0             0         65535" " 0             1        100000   20031143802"
-    -- Its end is called back to the reach, and not one step nearer, nor beyond the end. It is held, extended and lifted.
-    ∷ line " 5         65535   20031143801             0             0             0             0" "14             0             0             0"
+    -- A call back to behind its head or beyond its end is 14. One step short of its reach it is pending: a new number is 17, with track or
+    -- without, 12 is as before, and the repeat gives the end of now, which has not moved. Called back to the reach instead, the end moves at once.
+    -- The train is held, extended and lifted.
+    ∷ line " 5         65535   20004362049             0             0             0             0" "14             0             0             0"
     ∷ line " 5         65535   24140000001             0             0             0             0" "14             0             0             0"
+    ∷ line " 5         65535   20031143801             0             0             0             0" " 0             0             0             0"
+    ∷ line " 4         65535            15             1             0             0         65535" "17             0             0             0"
+    ∷ line " 4         65535            15   80000000000             0             0         65535" "17             0             0             0"
+    ∷ line " 4         65535            14             1             0             0         65535" "12             0             0             0"
+    ∷ line " 4         65535            14      20000000             0             0         65535" " 0   24140000000             1             0"
     ∷ line " 5         65535   20031143802             0             0             0             0" " 0             0             0             0"
     ∷ line " 6         65535             0             0             0             0             0" " 0             0             0             0"
     ∷ line " 3         65535   20005262050        500000             0             0         65535" " 0             2             0   20031143802"
@@ -169,9 +176,9 @@ firstPart =
 abbrev pub afterFirst : Session
 afterFirst =
     opened
-    (trainOf 65535 1 (record { full = 87021; growth = 690 }) (record { head = 20006262050; speed = 500000; level = 690 }) Brake (record { end = 90031143802; start = 10; number = 15; length = 70000000000 }) (record { held = false; penalty = true })
-    ∷ trainOf 7 2345 (record { full = 133303; growth = 263 }) (record { head = 19893904000; speed = 0; level = 133303 }) Brake (record { end = 19893904000; start = 0; number = 0; length = 0 }) (record { held = false; penalty = false })
-    ∷ trainOf 300 5 (record { full = 162039; growth = 1286 }) (record { head = 5398784000; speed = 0; level = 162039 }) Brake (record { end = 5398784000; start = 4294967294; number = 4294967294; length = 0 }) (record { held = false; penalty = false })
+    (trainOf 65535 1 (record { full = 87021; growth = 690 }) (record { head = 20006262050; speed = 500000; level = 690 }) Brake (record { end = 90031143802; goal = 90031143802; start = 10; number = 15; length = 70000000000 }) (record { held = false; penalty = true })
+    ∷ trainOf 7 2345 (record { full = 133303; growth = 263 }) (record { head = 19893904000; speed = 0; level = 133303 }) Brake (record { end = 19893904000; goal = 19893904000; start = 0; number = 0; length = 0 }) (record { held = false; penalty = false })
+    ∷ trainOf 300 5 (record { full = 162039; growth = 1286 }) (record { head = 5398784000; speed = 0; level = 162039 }) Brake (record { end = 5398784000; goal = 5398784000; start = 4294967294; number = 4294967294; length = 0 }) (record { held = false; penalty = false })
     ∷ [])
 
 -- ---- second part: up to the speed ceiling
@@ -243,9 +250,9 @@ secondPart =
 abbrev pub afterSecond : Session
 afterSecond =
     opened
-    (trainOf 65535 1 (record { full = 87021; growth = 690 }) (record { head = 20333152227; speed = 5693627; level = 0 }) (Drive 0) (record { end = 90031143802; start = 10; number = 15; length = 70000000000 }) (record { held = false; penalty = false })
-    ∷ trainOf 7 2345 (record { full = 133303; growth = 263 }) (record { head = 19893904000; speed = 0; level = 133303 }) Brake (record { end = 19893904000; start = 0; number = 0; length = 0 }) (record { held = false; penalty = false })
-    ∷ trainOf 300 5 (record { full = 162039; growth = 1286 }) (record { head = 5398784000; speed = 0; level = 162039 }) Brake (record { end = 5398784000; start = 4294967294; number = 4294967294; length = 0 }) (record { held = false; penalty = false })
+    (trainOf 65535 1 (record { full = 87021; growth = 690 }) (record { head = 20333152227; speed = 5693627; level = 0 }) (Drive 0) (record { end = 90031143802; goal = 90031143802; start = 10; number = 15; length = 70000000000 }) (record { held = false; penalty = false })
+    ∷ trainOf 7 2345 (record { full = 133303; growth = 263 }) (record { head = 19893904000; speed = 0; level = 133303 }) Brake (record { end = 19893904000; goal = 19893904000; start = 0; number = 0; length = 0 }) (record { held = false; penalty = false })
+    ∷ trainOf 300 5 (record { full = 162039; growth = 1286 }) (record { head = 5398784000; speed = 0; level = 162039 }) Brake (record { end = 5398784000; goal = 5398784000; start = 4294967294; number = 4294967294; length = 0 }) (record { held = false; penalty = false })
     ∷ [])
 
 -- ---- third part: down to a stand
@@ -319,8 +326,9 @@ thirdPart =
     ∷ line " 3         65535   20997052839       4388837             0             0         65535" " 0             2             0   21325486228"
     ∷ line " 3         65535   21005787733       4346057             0             0         65535" " 0             2             0   21325486228"
     ∷ line " 3         65535   21014436377       4302587             0             0         65535" " 0             2             0   21325486228"
-    -- There its end is called back to the reach and not nearer, it is extended, lifted and held again, and it is not taken off.
-    ∷ line " 5         65535   21325486227             0             0             0             0" "14             0             0             0"
+    -- There it is called back to one step short of its reach, and to the reach instead; it is extended, lifted and held again, and it is not taken
+    -- off.
+    ∷ line " 5         65535   21325486227             0             0             0             0" " 0             0             0             0"
     ∷ line " 5         65535   21325486228             0             0             0             0" " 0             0             0             0"
     ∷ line " 4         65535            16             1             0             0         65535" " 0   21325486229             0             0"
     ∷ line " 4         65535            15   70000000000             0             0         65535" "11             0             0             0"
@@ -391,7 +399,7 @@ thirdPart =
     ∷ line " 3         65535   21324103731        346127             0             0         65535" " 0             2             0   21325486228"
     ∷ line " 3         65535   21324709735        259877             0             0         65535" " 0             2             0   21325486228"
     ∷ line " 3         65535   21325142549        172937             0             0         65535" " 0             2             0   21325486228"
-    ∷ line " 5         65535   21325486227             0             0             0             0" "14             0             0             0"
+    ∷ line " 5         65535   21325486227             0             0             0             0" " 0             0             0             0"
     ∷ line " 5         65535   21325486228             0             0             0             0" " 0             0             0             0"
     ∷ line " 4         65535            17      20000000             0             0         65535" " 0   21345486228             0             0"
     ∷ line " 4         65535            16             1             0             0         65535" "11             0             0             0"
@@ -407,9 +415,9 @@ thirdPart =
 abbrev pub afterThird : Session
 afterThird =
     opened
-    (trainOf 65535 1 (record { full = 87021; growth = 690 }) (record { head = 21325486228; speed = 0; level = 87021 }) Brake (record { end = 21345486228; start = 10; number = 17; length = 20000000 }) (record { held = true; penalty = false })
-    ∷ trainOf 7 2345 (record { full = 133303; growth = 263 }) (record { head = 19893904000; speed = 0; level = 133303 }) Brake (record { end = 19893904000; start = 0; number = 0; length = 0 }) (record { held = false; penalty = false })
-    ∷ trainOf 300 5 (record { full = 162039; growth = 1286 }) (record { head = 5398784000; speed = 0; level = 162039 }) Brake (record { end = 5398784000; start = 4294967294; number = 4294967294; length = 0 }) (record { held = false; penalty = false })
+    (trainOf 65535 1 (record { full = 87021; growth = 690 }) (record { head = 21325486228; speed = 0; level = 87021 }) Brake (record { end = 21345486228; goal = 21345486228; start = 10; number = 17; length = 20000000 }) (record { held = true; penalty = false })
+    ∷ trainOf 7 2345 (record { full = 133303; growth = 263 }) (record { head = 19893904000; speed = 0; level = 133303 }) Brake (record { end = 19893904000; goal = 19893904000; start = 0; number = 0; length = 0 }) (record { held = false; penalty = false })
+    ∷ trainOf 300 5 (record { full = 162039; growth = 1286 }) (record { head = 5398784000; speed = 0; level = 162039 }) Brake (record { end = 5398784000; goal = 5398784000; start = 4294967294; number = 4294967294; length = 0 }) (record { held = false; penalty = false })
     ∷ [])
 
 -- ---- fourth part: the trains behind, 32 of them, and the first one taken off
@@ -433,7 +441,10 @@ fourthPart =
     ∷ line " 4           300    4294967295     101092000             0             0           300" " 0    5499876000             0             0"
     ∷ line " 4           300             1             1             0             0           300" "11             0             0             0"
     ∷ line " 3           300    5398784000             0             0             0           300" " 0             1        100000    5400648107"
+    -- Called back to one step short of its reach, it goes on to stand there: the call back is pending until then, and the end becomes its head.
+    ∷ line " 5           300    5400648106             0             0             0             0" " 0             0             0             0"
     ∷ line " 6           300             0             0             0             0             0" " 0             0             0             0"
+    ∷ line " 4           300    4294967295     101092000             0             0           300" " 0    5499876000             1             0"
     ∷ line " 3           300    5398884000        100000             0             0           300" " 0             2             0    5400648107"
     ∷ line " 3           300    5399084000        100000             0             0           300" " 0             2             0    5400648107"
     ∷ line " 3           300    5399282714         98714             0             0           300" " 0             2             0    5400648107"
@@ -448,6 +459,7 @@ fourthPart =
     ∷ line " 3           300    5400588890         29270             0             0           300" " 0             2             0    5400648107"
     ∷ line " 3           300    5400633284         15124             0             0           300" " 0             2             0    5400648107"
     ∷ line " 3           300    5400648107             0             0             0           300" " 0             2             0    5400648107"
+    ∷ line " 4           300    4294967295     101092000             0             0           300" " 0    5400648107             1             0"
     -- 29 trains more of 1 ft, each just the safety distance behind the one before: 32 on the line. One more is 6, but 4 and 5 come first.
     ∷ line " 2          1001    5270168107             1             1             0         70000" " 0        133303          1057    5270168107"
     ∷ line " 2          1002    5164072107             1             2             0         70000" " 0        162039          1286    5164072107"
@@ -492,6 +504,14 @@ fourthPart =
     -- Train 7 is lifted, and has all that track. It moves, so it brakes on.
     ∷ line " 7             7             0             0             0             0             0" " 0             0             0             0"
     ∷ line " 3             7   19895189405         96045             0             0             7" " 0             2             0   19897780886"
+    -- It is called back to its head, and then to a place further on, which takes the place of the first: a new number is 17. Reported slower, it
+    -- will stop short of that place: the end moves there, while the train moves and brakes on. The number is taken then.
+    ∷ line " 5             7   19895189405             0             0             0             0" " 0             0             0             0"
+    ∷ line " 5             7   19896000000             0             0             0             0" " 0             0             0             0"
+    ∷ line " 4             7             3             1             0             0             7" "17             0             0             0"
+    ∷ line " 3             7   19895370000         40000             0             0             7" " 0             2             0   19895931879"
+    ∷ line " 4             7             2   80102219114             0             0             7" " 0   19896000000             1             0"
+    ∷ line " 4             7             3             1             0             0             7" " 0   19896000001             0             0"
     -- In the new stay nothing of the earlier one counts: number 1 is new, and there is no track.
     ∷ line " 4         65535             1             1             0             0         65535" "13             0             0             0"
     -- 200 empty lines. The answers to 92 have more bytes than one read; of 200, so many stand in one read wherever the reads cut.

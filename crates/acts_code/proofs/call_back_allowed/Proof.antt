@@ -11,17 +11,12 @@ returns : tie.Need-returns
 unfolding callBackAllowed
 returns c = rw (sym (c .before .is-computable .ensures) ∙ not-true _ (c .if1 .taken), callBackAllowed)
 
-reach-of-requires : tie.Need-reach-of-requires
-reach-of-requires c κs = sym (c .before .before .is-computable .ensures) ∙ not-false _ (c .before .if1 .left)
-
 returns-2 : tie.Need-returns-2
 unfolding callBackAllowed
 returns-2 c =
     let one = c .before .before .before in
-    rw (sym (one .before .is-computable .ensures) ∙ not-false _ (one .if1 .left), callBackAllowed)
-    (c .in-range .ensures ∙ (rw (c .before .reach-of .ensures)))
+    rw (sym (one .before .is-computable .ensures) ∙ not-false _ (one .if1 .left), callBackAllowed) (c .in-range .ensures)
 
 pub call-back-allowed-spec : {M : Type 1} → statement M
 call-back-allowed-spec =
-    tie.close
-    (tie.spec (λ c κs. search needs) returns reach-of-requires (λ c κs. search needs) returns-2)
+    tie.close (tie.spec (λ c κs. search needs) returns (λ c κs. search needs) returns-2)

@@ -5,7 +5,7 @@ use mathlib.Core.Path.{_≡_, sym, _∙_}
 use borrow.Author.Tests.{not-true, not-false}
 use borrow.Author.Needs.{needs}
 use Rattle.acts.specs.Acts.{requestInRange, isOld}
-use Rattle.acts.proofs.Verdicts.{extend-bad, extend-old, extend-other, extend-repeat, extend-beyond, extend-new}
+use Rattle.acts.proofs.Verdicts.{extend-bad, extend-old, extend-other, extend-repeat, extend-pending, extend-beyond, extend-new}
 use Rattle.acts_code.proofs.extend.Statement.{statement}
 use Rattle.acts_code.proofs.extend.Tie as tie
 
@@ -44,19 +44,28 @@ returns-5 c =
     let new = c .before .before in
     let past = new .before .before .before in
     let a = past .before .before .before .before .before .args in
-    sym (extend-beyond (a .s) (a .x) (a .limit) (a .q) (ranged (past .before .before)) (fresh past) (new .if3 .left) (sym (c .before .within .ensures .0) ∙ not-true _ (c .if5 .taken)))
-
-grant-requires : tie.Need-grant-requires
-grant-requires c κs = c .before .within .ensures .1 (not-false _ (c .if5 .left))
+    sym (extend-pending (a .s) (a .x) (a .limit) (a .q) (ranged (past .before .before)) (fresh past) (new .if3 .left) (c .if5 .taken))
 
 returns-6 : tie.Need-returns-6
 returns-6 c =
+    let free = c .before .before in
+    let new = free .before .before in
+    let past = new .before .before .before in
+    let a = past .before .before .before .before .before .args in
+    sym (extend-beyond (a .s) (a .x) (a .limit) (a .q) (ranged (past .before .before)) (fresh past) (new .if3 .left) (free .if5 .left) (sym (c .before .within .ensures .0) ∙ not-true _ (c .if6 .taken)))
+
+grant-requires : tie.Need-grant-requires
+grant-requires c κs = c .before .within .ensures .1 (not-false _ (c .if6 .left))
+
+returns-7 : tie.Need-returns-7
+returns-7 c =
     let room = c .before .before in
-    let new = room .before .before in
+    let free = room .before .before in
+    let new = free .before .before in
     let past = new .before .before .before in
     let a = past .before .before .before .before .before .args in
     rw (c .before .grant .ensures)
-    (sym (extend-new (a .s) (a .x) (a .limit) (a .q) (ranged (past .before .before)) (fresh past) (new .if3 .left) (sym (room .before .within .ensures .0) ∙ not-false _ (room .if5 .left))))
+    (sym (extend-new (a .s) (a .x) (a .limit) (a .q) (ranged (past .before .before)) (fresh past) (new .if3 .left) (free .if5 .left) (sym (room .before .within .ensures .0) ∙ not-false _ (room .if6 .left))))
 
 pub extend-spec : {M : Type 1} → statement M
 extend-spec =
@@ -68,7 +77,8 @@ extend-spec =
     returns-2
     returns-3
     returns-4
-    (λ c κs. search needs)
     returns-5
+    (λ c κs. search needs)
+    returns-6
     grant-requires
-    returns-6)
+    returns-7)

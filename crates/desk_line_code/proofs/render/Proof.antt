@@ -28,7 +28,7 @@ module _ (c : tie.After-slice-known3) where
   room : deskWidth ≤ length (start .args .out .now)
   room = r .before .before .before .before .if1 .left
 
-  written : set (p .put-record .last .0) 254 10 ≡ over (deskLine (start .args .w)) (start .args .out .now)
+  written : set (p .put-record .last .0) 268 10 ≡ over (deskLine (start .args .w)) (start .args .out .now)
   written =
       line-put (start .args .out .now) _ _ _ (start .args .w) _ room (r .before .before .numbers-of .ensures) (p .before .record-numbers .ensures)
       (r .render .ensures .1) (p .put-record .ensures)
