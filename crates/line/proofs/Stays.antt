@@ -36,8 +36,8 @@ use Rattle.table.proofs.Trains.{Sized, sized-with, sized-last, sized-without-fi
 use Rattle.table.proofs.Spare.{Tidy, tidy-with, tidy-last, tidy-without-first}
 use Rattle.table.proofs.Sentences.{FirstWith, found-exactly, put-leaves, add-leaves, drop-leaves}
 use Rattle.line.specs.declared.Decision.{Decision}
-use Rattle.line.specs.Decide.{refused, rulingAt}
-use Rattle.line.specs.Step.{requested}
+use Rattle.line.specs.Decide.{refused, rulingAt, decideOn}
+use Rattle.line.specs.Step.{carriedOut, requested}
 use Rattle.line.proofs.Steps.{step, any-call, any-request}
 
 -- ---- the table has its 32 places, and no more are in use
@@ -122,6 +122,18 @@ own-accepted t id a =
     refuses (Enter e) r = tt
     refuses (Own j a) r = λ zero. let range = refusal-range r in absurd (omega arith)
     refuses (TakeOff j) r = tt
+
+-- an accepted request is the step of the call that it asks for
+pub request-taken : (t : Table) (r : Request) (c : Call) → r .ask ≡ OnTable c → numbersOf (requested true t r .answer) .number ≡ 0 → requested true t r ≡ step t c
+unfolding step
+request-taken t r c =
+    any-request t Shows (λ q why asks taken. let range = refusal-range why in absurd (omega arith)) does r
+  where
+    Shows : Request → Decision → Type 0
+    Shows q d = q .ask ≡ OnTable c → numbersOf (d .answer) .number ≡ 0 → carriedOut t d ≡ carriedOut t (decideOn t (OnTable c))
+
+    does : (q : Request) (e : Call) → q .ask ≡ OnTable e → Shows q (decideOn t (OnTable e))
+    does q e asks same taken = ap (λ (a : Ask). carriedOut t (decideOn t a)) (sym asks ∙ same)
 
 -- ---- one train
 

@@ -9,6 +9,7 @@ pub mod Plain
 pub mod Bounds
 pub mod Demand2
 pub mod Repeats
+pub mod Pending
 pub mod Emptied
 pub mod Previews
 pub mod Refuted

@@ -74,7 +74,7 @@ lasts Q id (tried r ∷ ds) t sized h keeps = lasts Q id ds t sized h (keeps .1)
 abbrev pub Takes : Ask → Event → Type 0
 Takes a e = (caller : ℕ) × (e .deed ≡ made (request caller a)) × (isAccepted e ≡ true)
 
-takes : (e : Event) (r : Request) (a : Ask) → e .deed ≡ made r → r .ask ≡ a → e .answer .number ≡ 0 → Takes a e
+pub takes : (e : Event) (r : Request) (a : Ask) → e .deed ≡ made r → r .ask ≡ a → e .answer .number ≡ 0 → Takes a e
 unfolding isAccepted
 takes e r a is asks zero = (r .caller, is ∙ ap (λ (b : Ask). made (request (r .caller) b)) asks, eq-eqb _ 0 zero)
 

@@ -55,22 +55,28 @@ guarded-entering σ limit e k sound long limited =
 -- ---- acts
 
 module _ (σ : Settings) (limit : Limit) (x : Train) (g : Guarded σ limit x) where
-  pub guarded-report : (r : Reading) → allowed x r ≡ true → Guarded σ limit (reported σ x r)
+  -- the end does not move forward
+  pub report-aims : (r : Reading) → allowed x r ≡ true → let y = reported σ x r in (y .authority .end ≤ x .authority .end) × Aims (reachOf y) (y .authority)
   unfolding reported
-  guarded-report r e =
+  report-aims r e =
       let k = x .figures in
       let m = motionAfter x r in
       let o = orderAfter σ x m in
       let better = allowed-no-worse x r e in
-      let order = may-order σ x m in
-      let reached = order-keeps k (σ .maxima) (x .motion) (x .order) m o (goalOf x) (x .authority .end) (g .figures) better (g .aims .reach) (g .aims .goal) order in
-      let (nearer, aims) = settled-aims (x .authority) (stands k (m .speed) (m .level)) (m .head) (reach k m o) (g .aims .goal) (head-reach k m o) reached (stopped-past σ x m (g .figures)) in
+      let reached = order-keeps k (σ .maxima) (x .motion) (x .order) m o (goalOf x) (x .authority .end) (g .figures) better (g .aims .reach) (g .aims .goal) (may-order σ x m) in
+      settled-aims (x .authority) (stands k (m .speed) (m .level)) (m .head) (reach k m o) (g .aims .goal) (head-reach k m o) reached (stopped-past σ x m (g .figures))
+
+  pub guarded-report : (r : Reading) → allowed x r ≡ true → Guarded σ limit (reported σ x r)
+  unfolding reported
+  guarded-report r e =
+      let m = motionAfter x r in
+      let (nearer, aims) = report-aims r e in
       record {
         figures = g .figures;
         rear-on-line = le-trans (g .rear-on-line) (allowed-head x r e);
         end-in-limit = limit-below limit nearer (g .end-in-limit);
         aims = aims;
-        within = within-report k (σ .maxima) (x .motion) (x .order) m o (goalOf x) (g .within) better order;
+        within = within-report (x .figures) (σ .maxima) (x .motion) (x .order) m (orderAfter σ x m) (goalOf x) (g .within) (allowed-no-worse x r e) (may-order σ x m);
       }
 
   -- the other acts leave motion and order as they are
