@@ -8,13 +8,14 @@ use Rattle.logic.specs.Rounding.{ceilDiv}
 use Rattle.logic.proofs.Tests.{not-both}
 use Rattle.ranges.specs.Ranges.{between}
 use Rattle.brake.specs.Consist.{carOf, fullBrake, applicationTime, applicationCycles, sheetEntry, entryFor, brakeCycles, figuresWith, figuresBy, figuresOf}
-use Rattle.motion.specs.Motion.{nextLevel, stands}
+use Rattle.motion.specs.Motion.{brakeTravel, brakeSpeed, nextLevel, driveTravel, driveSpeed, stands, brakedCycle, firstCycles, enoughCycles, brakedRun, totalTravel, stoppingDistance}
+use Rattle.motion.specs.Orders.{stoppingPlace}
 use Rattle.motion.specs.Count.{cyclesToStand}
 use Rattle.motion.specs.Starred.{fullGiven}
 use Rattle.train.specs.Track.{stepsOf}
 use Rattle.safety.specs.History.{doneBy, isAccepted, toldAct, toldCall, toldBy, told, rearOf}
 use Rattle.safety.specs.Claim.{Claim}
-use Rattle.safety.specs.Worked.{sessionLine, loadedEnters, heldCount, rearOffTheLine, headPastEnd, sameCapEachCycle, endTooNear, endOffTheLine, overlapOfTwo, heldAndMoving, brakedAndMoving, figuresMadeUp}
+use Rattle.safety.specs.Worked.{sessionLine, loadedEnters, heldCount, rearOffTheLine, headPastEnd, sameCapEachCycle, doneTooSoon, endTooNear, endOffTheLine, overlapOfTwo, heldAndMoving, brakedAndMoving, figuresMadeUp}
 
 pub counted : heldCount (told sessionLine (loadedEnters ∷ []) .trains) ≡ 710
 unfolding ceilDiv cyclesToStand isAccepted toldCall toldBy told
@@ -32,6 +33,11 @@ head-refuted claim = not-above 14295120000 (claim .0 .head-within-end)
 pub same-cap-refuted : Claim sessionLine sameCapEachCycle → ⊥
 unfolding Claim doneBy isAccepted toldAct toldCall toldBy told
 same-cap-refuted claim = not-above 14295120000 (claim .0 .head-within-end)
+
+-- the end that a call back has moved counts
+pub done-refuted : Claim sessionLine doneTooSoon → ⊥
+unfolding Claim ceilDiv brakeTravel brakeSpeed nextLevel driveTravel driveSpeed stands brakedCycle firstCycles enoughCycles brakedRun totalTravel stoppingDistance stoppingPlace doneBy isAccepted toldAct toldCall toldBy told
+done-refuted claim = not-above 14295135000 (claim .0 .head-within-end)
 
 pub rear-refuted : Claim sessionLine rearOffTheLine → ⊥
 unfolding Claim isAccepted toldCall toldBy told stepsOf

@@ -1,11 +1,11 @@
--- Worked examples: a list of deeds for the words of demand 3 (proofs/Worked: worked), and histories that no controller may have, since the
+-- Worked examples: lists of deeds for the words of demand 3 (proofs/Worked: worked), and histories that no controller may have, since the
 -- claim does not hold of them (proofs/Refuted).
 use Prim.Native.Nat.{ℕ}
 use mathlib.Core.Option.{Option, none, some}
 use mathlib.Core.List.{List, [], _∷_, map}
 use lib.ListN.{replicate}
 use Rattle.calls.specs.declared.Opening.{Opening}
-use Rattle.calls.specs.declared.Act.the-variants.{Report, Extend, Hold, Lift}
+use Rattle.calls.specs.declared.Act.the-variants.{Report, Extend, CallBack, Hold, Lift}
 use Rattle.calls.specs.declared.Call.the-variants.{Enter, Own, TakeOff}
 use Rattle.calls.specs.declared.Ask.the-variants.{Open, OnTable}
 use Rattle.calls.specs.declared.Request.{Request}
@@ -30,7 +30,10 @@ report id h v = request id (OnTable (Own id (Report (record { head = h; speed = 
 abbrev pub extend : ℕ → ℕ → ℕ → Request
 extend id n l = request id (OnTable (Own id (Extend (record { number = n; length = l }))))
 
--- the dispatcher, 0: hold, lift
+-- the dispatcher, 0: call back, hold, lift
+abbrev pub callBack : ℕ → ℕ → Request
+callBack id p = request 0 (OnTable (Own id (CallBack p)))
+
 abbrev pub hold : ℕ → Request
 hold id = request 0 (OnTable (Own id Hold))
 
@@ -138,6 +141,8 @@ pub record Words : Type 0 where
   pub speed : ℕ
   pub rear : ℕ
   pub end : ℕ
+  -- the place that a pending call back wants, or the end
+  pub goal : ℕ
   pub held : Option ℕ
   pub braked : Option ℕ
 
@@ -150,6 +155,7 @@ wordsOf x =
       speed = x .now .last .speed;
       rear = rearOf x;
       end = x .now .authority .end;
+      goal = x .now .authority .goal;
       held = x .now .counts .held;
       braked = x .now .counts .braked;
     }
@@ -160,13 +166,89 @@ wordsAfter o ds = map wordsOf (told o (history (openStep o .table) ds) .trains)
 -- a train that has entered and is held
 abbrev pub triedWords : List Words
 triedWords =
-    record { id = 7; start = 0; head = 14295120000; speed = 0; rear = 0; end = 14295120000; held = some 0; braked = none } ∷ []
+    record { id = 7; start = 0; head = 14295120000; speed = 0; rear = 0; end = 14295120000; goal = 14295120000; held = some 0; braked = none } ∷ []
 
 abbrev pub workedWords : List Words
 workedWords =
-    record { id = 7; start = 5; head = 24295131000; speed = 3000; rear = 10000011000; end = 25295120001; held = none; braked = some 2 }
-    ∷ record { id = 9; start = 0; head = 1000003726; speed = 0; rear = 390403726; end = 1100000500; held = some 2; braked = none }
+    record { id = 7; start = 5; head = 24295131000; speed = 3000; rear = 10000011000; end = 25295120001; goal = 25295120001; held = none; braked = some 2 }
+    ∷ record { id = 9; start = 0; head = 1000003726; speed = 0; rear = 390403726; end = 1100000500; goal = 1100000500; held = some 2; braked = none }
     ∷ []
+
+-- ---- pending call backs
+
+-- Train 7 drives with 2,534 and reaches 14,295,139,993. It is called back to short of that, to its head, and to a place further on, which is
+-- wanted then; a new extension is 17, with track or without, and the repeat gives the end of now. Its report 2,000 fast gets brake, but would not
+-- stop there; held and lifted, it brakes on, and reported slower it would: the end moves there.
+abbrev pub replacedDeeds : List Deed
+replacedDeeds =
+    made (enter 7 14295120000 2345 1 0)
+    ∷ made (extend 7 1 20000)
+    ∷ made (report 7 14295120000 0)
+    ∷ made (callBack 7 14295119999)
+    ∷ made (callBack 7 14295120000)
+    ∷ made (callBack 7 14295135000)
+    ∷ made (extend 7 2 1)
+    ∷ made (extend 7 2 200000000000)
+    ∷ made (extend 7 1 20001)
+    ∷ made (extend 7 1 20000)
+    ∷ made (report 7 14295122534 2000)
+    ∷ made (hold 7)
+    ∷ made (lift 7)
+    ∷ []
+
+abbrev pub replacedAnswers : List Numbers
+replacedAnswers =
+    numbers 0 133303 263 14295120000
+    ∷ numbers 0 14295140000 0 0
+    ∷ numbers 0 1 2534 14295139993
+    ∷ numbers 14 0 0 0
+    ∷ numbers 0 0 0 0
+    ∷ numbers 0 0 0 0
+    ∷ numbers 17 0 0 0
+    ∷ numbers 17 0 0 0
+    ∷ numbers 12 0 0 0
+    ∷ numbers 0 14295140000 1 0
+    ∷ numbers 0 2 0 14295135022
+    ∷ numbers 0 0 0 0
+    ∷ numbers 0 0 0 0
+    ∷ []
+
+abbrev pub replacedWords : List Words
+replacedWords =
+    record { id = 7; start = 0; head = 14295122534; speed = 2000; rear = 2534; end = 14295140000; goal = 14295135000; held = none; braked = some 1 } ∷ []
+
+-- the place, reached: the end is there, and nothing is pending
+abbrev pub thereDeeds : List Deed
+thereDeeds = made (report 7 14295126534 1900) ∷ made (extend 7 2 1) ∷ []
+
+abbrev pub thereWords : List Words
+thereWords =
+    record { id = 7; start = 0; head = 14295126534; speed = 1900; rear = 6534; end = 14295135001; goal = 14295135001; held = none; braked = some 2 } ∷ []
+
+-- the worst case on, to a stand past the place: that report is still answered against the place, and the end becomes the head
+abbrev pub pastDeeds : List Deed
+pastDeeds =
+    made (report 7 14295126534 2000)
+    ∷ made (report 7 14295130271 1737)
+    ∷ made (report 7 14295133219 1211)
+    ∷ made (report 7 14295134852 422)
+    ∷ made (report 7 14295135022 0)
+    ∷ made (report 7 14295135022 0)
+    ∷ []
+
+abbrev pub pastAnswers : List Numbers
+pastAnswers =
+    numbers 0 2 0 14295135022
+    ∷ numbers 0 2 0 14295135022
+    ∷ numbers 0 2 0 14295135022
+    ∷ numbers 0 2 0 14295135022
+    ∷ numbers 0 2 0 14295135022
+    ∷ numbers 0 1 0 14295135022
+    ∷ []
+
+abbrev pub pastWords : List Words
+pastWords =
+    record { id = 7; start = 0; head = 14295135022; speed = 0; rear = 15022; end = 14295135022; goal = 14295135022; held = none; braked = none } ∷ []
 
 -- ---- the count of document 01's example, and histories that break the claim
 
@@ -194,6 +276,17 @@ headPastEnd = loadedEnters ∷ said (report 7 14295120001 0) 2 0 14295120001 ∷
 -- the same cap above 0 at each report, also at its end: the train reports what it was allowed, and is past its end
 abbrev pub sameCapEachCycle : List Event
 sameCapEachCycle = loadedEnters ∷ said (report 7 14295120000 0) 1 1 14295120000 ∷ said (report 7 14295120001 1) 1 1 14295120001 ∷ []
+
+-- a pending call back is done by an answer whose reach the train does not keep to: it is past its end
+abbrev pub doneTooSoon : List Event
+doneTooSoon =
+    loadedEnters
+    ∷ said (extend 7 1 20000) 14295140000 0 0
+    ∷ said (report 7 14295120000 0) 1 2534 14295139993
+    ∷ said (callBack 7 14295135000) 0 0 0
+    ∷ said (report 7 14295122534 2534) 2 0 14295135000
+    ∷ said (report 7 14295135001 0) 2 0 14295135001
+    ∷ []
 
 -- the first train, with its rear at 20,000,000,000
 abbrev pub firstEnters : Event
