@@ -20,7 +20,8 @@ impl Scene {
         match self.random.below(100) {
             0..=34 => self.run_on(),
             35..=60 => self.ask_for_more(),
-            61..=71 => self.call_some_back(),
+            61..=68 => self.call_some_back(),
+            69..=71 => self.call_back_short(),
             72..=75 => self.name_one(|id| Call::Hold { id }),
             76..=81 => self.name_one(|id| Call::Lift { id }),
             82..=84 => self.brake_and_release(),
@@ -108,6 +109,7 @@ impl Scene {
         if end > train.end {
             self.extend(train, train.number + 1, end - train.end);
         } else {
+            // Below the reach it is pending, and the report ends it: a cap fits.
             self.call(Call::CallBack { id, place: end });
         }
         self.report(train, next.head, next.speed);
@@ -179,28 +181,6 @@ impl Scene {
             _ => free,
         };
         self.random.scaled(most)
-    }
-
-    pub fn call_some_back(&mut self) {
-        match self.pick() {
-            Some((_, train)) => self.call_back(&train),
-            None => self.let_in(),
-        }
-    }
-
-    /// A call back to the reach or the end, or just beyond them.
-    fn call_back(&mut self, train: &Train) {
-        let (id, end, reach) = (train.id, train.end, self.reach(train));
-        let place = match self.random.below(10) {
-            0 | 1 => reach,
-            2 | 3 => reach.saturating_sub(1),
-            4 => end,
-            5 => end + 1,
-            6 => train.motion.head,
-            7 => self.random.pick(&[0, WIDEST]),
-            _ => self.random.between(reach.min(end), end),
-        };
-        self.call(Call::CallBack { id, place });
     }
 
     /// A call that names any train on the line and nothing else.
@@ -301,7 +281,7 @@ impl Scene {
     }
 
     /// A piece of what track there is.
-    fn give_track(&mut self, index: usize) {
+    pub fn give_track(&mut self, index: usize) {
         let Some(train) = self.train(index) else {
             return;
         };

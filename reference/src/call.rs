@@ -61,6 +61,8 @@ numbered! {
     NotLeaving = 15,
     /// A caller without the right to the call.
     NoRight = 16,
+    /// New track for a train with a call back pending.
+    Pending = 17,
 }
 
 /// What an opening gives.
@@ -173,14 +175,27 @@ impl Answer {
 
 /// A train's record in numbers: id, length in feet, B, j, head, speed, level, the
 /// order and its cap, end, starting number, the last accepted number and its
-/// length, held, penalty.
+/// length, held, penalty, and the place that a pending call back wants, or else
+/// the end again.
 pub type Record = [u64; RECORD_FIELDS];
 
-pub const RECORD_FIELDS: usize = 15;
+pub const RECORD_FIELDS: usize = 16;
+
+/// The field of the end.
+const END: usize = 9;
+/// The field of the place that is wanted.
+const WANT: usize = 15;
 
 /// What the desk answers: an answer, and the record that it shows.
 #[derive(Clone, Copy, Debug, PartialEq, Eq)]
 pub struct Shown {
     pub answer: Answer,
     pub record: Record,
+}
+
+impl Shown {
+    /// Whether its train has a call back pending.
+    pub fn has_pending(&self) -> bool {
+        self.record[WANT] != self.record[END]
+    }
 }

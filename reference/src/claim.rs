@@ -1,13 +1,17 @@
-//! Demand 3's claim, what document 01 says of the answers to reports, and who
-//! may call what, checked from calls and their answers alone. Nothing here reads
-//! the table of an implementation: what a train was ordered is what it was
-//! answered.
+//! Demand 3's claim, what document 01 says of the answers to reports, which call
+//! backs are pending, and who may call what, checked from calls and their answers
+//! alone. Nothing here reads the table of an implementation: what a train was
+//! ordered is what it was answered.
 
 use crate::brake::{Brake, STEPS_PER_FOOT};
 use crate::call::{Answer, Call, Entry, Message, Refusal, Settings};
 use crate::callers::TurnedAway;
 use crate::motion::{Motion, Order};
 use crate::orders::Orders;
+use crate::pending::{Met, Pendings};
+use crate::stay::{
+    check_braked, check_end, check_held, check_nearer, check_pending, limit, Held, Stay,
+};
 use crate::wire::{lines, read_answer, read_message, whole_line};
 
 /// The claim does not hold after this line, or its answer is wrong. Lines are
@@ -18,8 +22,8 @@ pub struct Broken {
     pub why: String,
 }
 
-/// How far a history tested the claims about held and braked trains and about
-/// callers, and the search for a cap.
+/// How far a history tested the claims about held and braked trains, about call
+/// backs and about callers, and the search for a cap.
 #[derive(Clone, Copy, Debug, Default, PartialEq, Eq)]
 pub struct Reached {
     /// Holds that lasted for the counted reports.
@@ -27,6 +31,7 @@ pub struct Reached {
     /// Those of them that found the train moving.
     pub moving: u64,
     pub penalties: Penalties,
+    pub pendings: Pendings,
     pub turned_away: TurnedAway,
     pub orders: Orders,
 }
@@ -72,116 +77,6 @@ pub fn check(input: &[u8], output: &[u8]) -> Result<Reached, Broken> {
     Ok(history.reached)
 }
 
-/// A stay of a train: from its accepted entering on.
-struct Stay {
-    id: u64,
-    steps: u64,
-    brake: Brake,
-    motion: Motion,
-    /// The last order, as answered.
-    order: Order,
-    end: u64,
-    number: u64,
-    held: Option<Held>,
-    /// Reports since the one that ordered brake while the train moved, that one
-    /// included; none once it has stood.
-    braked: Option<u64>,
-    /// The reports after which a held or braked train stands.
-    held_count: u64,
-}
-
-/// A hold that no accepted lift has followed.
-struct Held {
-    reports: u64,
-    moving: bool,
-}
-
-impl Stay {
-    fn rear(&self) -> Result<u64, String> {
-        let rear = self.motion.head.checked_sub(self.steps);
-        rear.ok_or_else(|| format!("the rear of train {} is before the line", self.id))
-    }
-
-    /// Takes an accepted report, and tells whether the last order allowed it.
-    fn move_to(&mut self, head: u64, speed: u64) -> Result<(), String> {
-        let last = self.motion;
-        let worst = last.worst(self.order, self.brake);
-        self.motion = Motion {
-            head,
-            speed,
-            level: worst.level,
-        };
-        let why = if head < last.head {
-            "is behind its last head"
-        } else if head > worst.head {
-            "is beyond the worst case of its order"
-        } else if speed > worst.speed {
-            "is faster than the worst case of its order"
-        } else {
-            return Ok(());
-        };
-        Err(format!("train {} {why}", self.id))
-    }
-
-    /// Counts a report under hold. Once the hold has lasted for the counted
-    /// ones, gives whether it found the train moving.
-    fn count_report(&mut self) -> Option<bool> {
-        let held = self.held.as_mut()?;
-        held.reports += 1;
-        (held.reports == self.held_count).then_some(held.moving)
-    }
-
-    /// Counts a report of a train that was braked while it moved. A stand ends
-    /// the count.
-    fn count_braked(&mut self, reached: &mut Penalties) {
-        if self.motion.speed > 0 {
-            self.braked = self.braked.map(|reports| reports + 1);
-        } else if self.braked.take().is_some() {
-            reached.stood += 1;
-        }
-    }
-
-    /// Begins that count, where the report was answered with brake.
-    fn begin_braked(&mut self, reached: &mut Penalties) {
-        if self.motion.speed == 0 || self.order != Order::Brake || self.braked.is_some() {
-            return;
-        }
-        self.braked = Some(1);
-        match self.held {
-            Some(_) => reached.under_hold += 1,
-            None => reached.without_hold += 1,
-        }
-    }
-
-    /// Takes the answered order, and tells whether a train in this place may
-    /// have it. The reach comes last, since a made-up speed has no short one.
-    fn obey(&mut self, answer: Answer, settings: Settings) -> Result<(), String> {
-        let id = self.id;
-        let [number, cap, reach] = answer.values;
-        let order = Order::of_numbers([number, cap])
-            .ok_or_else(|| format!("train {id} is answered {number}, {cap}: no order"))?;
-        self.order = order;
-        if let Order::Drive(cap) = order {
-            if self.held.is_some() {
-                return Err(format!("train {id} is held, but may drive"));
-            }
-            if cap > settings.traction || self.motion.speed + cap > settings.ceiling {
-                return Err(format!("train {id} may drive with too great a cap, {cap}"));
-            }
-        }
-        let own = self.motion.reach(order, self.brake);
-        if reach != own {
-            return Err(format!(
-                "the reach of train {id} is {own} by its order, answered as {reach}"
-            ));
-        }
-        if reach > self.end {
-            return Err(format!("the reach of train {id} is past its end"));
-        }
-        Ok(())
-    }
-}
-
 /// What the accepted calls on one table say.
 #[derive(Default)]
 struct History {
@@ -201,11 +96,13 @@ impl History {
         };
         self.judge_caller(message, answer)?;
         if !answer.is_accepted() {
-            return Ok(());
+            return self.refuse(message.call, answer);
         }
+        let end_before = self.named(message.call).map(|stay| stay.end);
         // The claim first: where it is broken, the answer is wrong as well.
         let answered = self.accept(message.call, answer);
         self.check()?;
+        self.check_called(message.call, end_before)?;
         answered
     }
 
@@ -263,27 +160,55 @@ impl History {
             Call::Report { id, head, speed } => self.report(id, head, speed, answer),
             Call::Extend { id, number, length } => self.extend(id, number, length, answer),
             Call::CallBack { id, place } => {
-                self.stay(id)?.end = place;
-                Ok(())
+                let stay = find(&mut self.stays, id)?;
+                stay.call_back(place, &mut self.reached.pendings)
             }
-            Call::Hold { id } => {
-                let stay = self.stay(id)?;
-                let moving = stay.motion.speed > 0;
-                stay.held.get_or_insert(Held { reports: 0, moving });
-                Ok(())
-            }
-            Call::Lift { id } => {
-                let stay = self.stay(id)?;
-                let lifted = stay.held.take().is_some() && stay.braked.is_some();
-                self.reached.penalties.lifted += u64::from(lifted);
-                Ok(())
-            }
+            Call::Hold { id } => self.hold(id),
+            Call::Lift { id } => self.lift(id),
             Call::TakeOff { id } => {
-                self.stay(id)?;
+                find(&mut self.stays, id)?;
                 self.stays.retain(|stay| stay.id != id);
                 Ok(())
             }
         }
+    }
+
+    /// A refusal changes nothing. Those of call backs and of new track are judged
+    /// by what is pending.
+    fn refuse(&mut self, call: Call, answer: Answer) -> Result<(), String> {
+        let is_named = |stay: &Stay| Some(stay.id) == call.id();
+        let found = self.stays.iter().position(is_named);
+        let (Some(index), Some(settings)) = (found, self.settings) else {
+            return Ok(());
+        };
+        let stay = &self.stays[index];
+        let reached = &mut self.reached.pendings;
+        match call {
+            Call::CallBack { place, .. } => stay.refuse_call_back(place, answer, reached),
+            Call::Extend { number, length, .. } => {
+                let ahead = index.checked_sub(1).map(|ahead| &self.stays[ahead]);
+                let is_free = |limit| stay.end + length <= limit;
+                let has_track = limit(ahead, settings).is_some_and(is_free);
+                stay.refuse_extension(number, has_track, answer, reached)
+            }
+            _ => Ok(()),
+        }
+    }
+
+    fn hold(&mut self, id: u64) -> Result<(), String> {
+        let stay = find(&mut self.stays, id)?;
+        let moving = stay.motion.speed > 0;
+        stay.held.get_or_insert(Held { reports: 0, moving });
+        stay.count_pending(Met::Held, &mut self.reached.pendings);
+        Ok(())
+    }
+
+    fn lift(&mut self, id: u64) -> Result<(), String> {
+        let stay = find(&mut self.stays, id)?;
+        let lifted = stay.held.take().is_some() && stay.braked.is_some();
+        self.reached.penalties.lifted += u64::from(lifted);
+        stay.count_pending(Met::Lifted, &mut self.reached.pendings);
+        Ok(())
     }
 
     fn enter(&mut self, entry: Entry, answer: Answer) -> Result<(), String> {
@@ -304,6 +229,8 @@ impl History {
             },
             order: Order::Brake,
             end: entry.head,
+            want: None,
+            waits: 0,
             number: entry.start,
             held: None,
             braked: None,
@@ -321,8 +248,8 @@ impl History {
 
     fn report(&mut self, id: u64, head: u64, speed: u64, answer: Answer) -> Result<(), String> {
         let settings = self.settings.ok_or("a report before the opening")?;
-        let mut reached = self.reached;
-        let stay = self.stay(id)?;
+        let reached = &mut self.reached;
+        let stay = find(&mut self.stays, id)?;
         let allowed = stay.move_to(head, speed);
         if let Some(moving) = stay.count_report() {
             reached.holds += 1;
@@ -336,20 +263,27 @@ impl History {
                 .count(stay.order, speed, stay.brake, settings);
         }
         stay.begin_braked(&mut reached.penalties);
+        stay.settle(answer.values[2], &mut reached.pendings);
         let together = self
             .stays
             .iter()
             .filter(|stay| stay.braked.is_some())
             .count() as u64;
         reached.penalties.together = reached.penalties.together.max(together);
-        self.reached = reached;
         answered
     }
 
-    /// A number above the last accepted or starting one adds its length.
+    /// A number above the last accepted or starting one adds its length, where no
+    /// call back is pending.
     fn extend(&mut self, id: u64, number: u64, length: u64, answer: Answer) -> Result<(), String> {
-        let stay = self.stay(id)?;
+        let stay = find(&mut self.stays, id)?;
         let new = number > stay.number;
+        if new && stay.want.is_some() {
+            return Err(format!(
+                "train {id} gets new track with a call back pending"
+            ));
+        }
+        stay.count_pending(Met::Repeated, &mut self.reached.pendings);
         if new {
             stay.number = number;
             stay.end += length;
@@ -365,11 +299,25 @@ impl History {
         Ok(())
     }
 
-    fn stay(&mut self, id: u64) -> Result<&mut Stay, String> {
-        self.stays
-            .iter_mut()
-            .find(|stay| stay.id == id)
-            .ok_or_else(|| format!("train {id} is not on the line, but its call is accepted"))
+    /// The stay of the train that a call names.
+    fn named(&self, call: Call) -> Option<&Stay> {
+        let is_named = |stay: &&Stay| Some(stay.id) == call.id();
+        self.stays.iter().find(is_named)
+    }
+
+    /// What a report and a call back leave of the end that the train had.
+    fn check_called(&self, call: Call, end_before: Option<u64>) -> Result<(), String> {
+        let (Some(stay), Some(end_before)) = (self.named(call), end_before) else {
+            return Ok(());
+        };
+        match call {
+            Call::Report { .. } => {
+                check_nearer(stay, end_before)?;
+                check_pending(stay)
+            }
+            Call::CallBack { .. } => check_nearer(stay, end_before),
+            _ => Ok(()),
+        }
     }
 
     fn check(&self) -> Result<(), String> {
@@ -393,6 +341,14 @@ impl History {
     }
 }
 
+/// The stay of a train whose call is accepted.
+fn find(stays: &mut [Stay], id: u64) -> Result<&mut Stay, String> {
+    stays
+        .iter_mut()
+        .find(|stay| stay.id == id)
+        .ok_or_else(|| format!("train {id} is not on the line, but its call is accepted"))
+}
+
 /// Whether a caller has the right to a call, in the numbers of document 02.
 pub fn may_call(caller: u64, call: Call) -> bool {
     match call {
@@ -403,48 +359,5 @@ pub fn may_call(caller: u64, call: Call) -> bool {
         Call::Report { id, .. } | Call::Extend { id, .. } => {
             caller == id && (1..=65_535).contains(&id)
         }
-    }
-}
-
-fn check_end(stay: &Stay, ahead: Option<&Stay>, settings: Settings) -> Result<(), String> {
-    if stay.motion.head > stay.end {
-        return Err(format!("the head of train {} is past its end", stay.id));
-    }
-    let Some(ahead) = ahead else {
-        if stay.end > settings.line_end {
-            return Err(format!("the end of train {} is past the line end", stay.id));
-        }
-        return Ok(());
-    };
-    if stay.end + settings.safety > ahead.rear()? {
-        return Err(format!(
-            "the end of train {} is too near the rear of train {}",
-            stay.id, ahead.id
-        ));
-    }
-    Ok(())
-}
-
-fn check_held(stay: &Stay) -> Result<(), String> {
-    let Some(held) = &stay.held else {
-        return Ok(());
-    };
-    if held.reports >= stay.held_count && stay.motion.speed > 0 {
-        return Err(format!(
-            "train {} moves after {} reports under hold",
-            stay.id, held.reports
-        ));
-    }
-    Ok(())
-}
-
-/// A stand ends the count, so a train that has one moves.
-fn check_braked(stay: &Stay) -> Result<(), String> {
-    match stay.braked {
-        Some(reports) if reports >= stay.held_count => Err(format!(
-            "train {} moves after {reports} reports, the first of which braked it",
-            stay.id
-        )),
-        _ => Ok(()),
     }
 }

@@ -4,6 +4,7 @@ use crate::call::{Code, Refusal};
 use crate::callers::TurnedAway;
 use crate::claim::{self, Penalties, Reached};
 use crate::orders::Orders;
+use crate::pending::Pendings;
 use crate::session;
 use crate::spoil::long_runs;
 use crate::wire::{lines, read_answer, read_message, whole_line};
@@ -112,6 +113,7 @@ pub struct Counts {
     /// Lists in which such a hold found the train moving.
     pub lists_held_moving: u64,
     pub penalties: Penalties,
+    pub pendings: Pendings,
     pub turned_away: TurnedAway,
     /// Long runs of empty lines.
     pub long_runs: u64,
@@ -131,6 +133,7 @@ impl Counts {
         self.lists_held += u64::from(reached.holds > 0);
         self.lists_held_moving += u64::from(reached.moving > 0);
         self.penalties.add(reached.penalties);
+        self.pendings.add(reached.pendings);
         self.turned_away.add(reached.turned_away);
         self.orders.add(reached.orders);
         self.long_runs += long_runs(input);

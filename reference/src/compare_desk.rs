@@ -22,6 +22,8 @@ pub struct DeskCounts {
     pub calls: Counts,
     /// Previews by call code and answer number. Those with code 0 are unreadable.
     pub previews: [[u64; ANSWERS]; CODES],
+    /// Previews that show a call back pending, by call code.
+    pub pending: [u64; CODES],
     /// Previews from callers without the right.
     pub turned_away: TurnedAway,
     /// Calls right after their own previews, by call code.
@@ -39,14 +41,23 @@ pub struct Foretold {
     pub out_of_turn: u64,
 }
 
+/// The calls that leave a call back pending, or may.
+const SHOWING_PENDING: [Code; 5] = [
+    Code::Report,
+    Code::Extend,
+    Code::CallBack,
+    Code::Hold,
+    Code::Lift,
+];
+
 /// The answers that the previews of a call can get, by the order of the checks in
-/// document 01.
+/// the papers.
 pub fn answers_to(code: Code) -> &'static [usize] {
     match code {
         Code::Open => &[0, 3, 16],
         Code::Enter => &[0, 2, 4, 5, 6, 7, 16],
         Code::Report => &[0, 2, 8, 9, 16],
-        Code::Extend => &[0, 2, 8, 10, 11, 12, 13, 16],
+        Code::Extend => &[0, 2, 8, 10, 11, 12, 13, 16, 17],
         Code::CallBack => &[0, 2, 8, 14, 16],
         Code::Hold | Code::Lift => &[0, 2, 8, 16],
         Code::TakeOff => &[0, 2, 8, 15, 16],
@@ -206,6 +217,10 @@ impl DeskCounts {
         self.previews.iter().map(|row| row[number]).sum()
     }
 
+    pub fn pending(&self, code: Code) -> u64 {
+        self.pending[code as usize]
+    }
+
     pub fn foretold(&self, code: Code) -> Foretold {
         self.foretold[code as usize]
     }
@@ -222,16 +237,18 @@ impl DeskCounts {
                     let caller = controller
                         .line()
                         .and_then(|line| line.train(message.caller));
-                    self.add_preview(message, caller.is_some(), exchange.shown.answer);
+                    self.add_preview(message, caller.is_some(), exchange.shown);
                 }
                 None => self.add_unreadable(exchange),
             }
         }
     }
 
-    fn add_preview(&mut self, message: Message, is_on_line: bool, answer: Answer) {
-        let Message { caller, call } = message;
-        self.previews[call.code() as usize][answer.number as usize] += 1;
+    fn add_preview(&mut self, message: Message, is_on_line: bool, shown: Shown) {
+        let (Message { caller, call }, answer) = (message, shown.answer);
+        let code = call.code() as usize;
+        self.previews[code][answer.number as usize] += 1;
+        self.pending[code] += u64::from(shown.has_pending());
         if !may_call(caller, call) {
             self.turned_away.count(message, is_on_line, answer);
         }
@@ -264,6 +281,10 @@ impl DeskCounts {
             } = self.foretold(code);
             counts.push((format!("{code:?} accepted after its preview"), accepted));
             counts.push((format!("{code:?} refused after its preview"), refused));
+        }
+        for code in SHOWING_PENDING {
+            let name = format!("previews of {code:?} with a call back pending");
+            counts.push((name, self.pending(code)));
         }
         counts.extend(self.turned_away.named());
         // On an open line a train may well ask what an opening would be answered.

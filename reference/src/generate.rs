@@ -39,10 +39,12 @@ pub enum Kind {
     Mixture,
     /// Ends that a cap just fits, at a stand and at all speeds.
     Searched,
+    /// Trains that are called back to short of their reach.
+    CalledBack,
 }
 
 impl Kind {
-    pub const ALL: [Kind; 12] = [
+    pub const ALL: [Kind; 13] = [
         Kind::Running,
         Kind::Full,
         Kind::Ranges,
@@ -55,6 +57,7 @@ impl Kind {
         Kind::Openings,
         Kind::Mixture,
         Kind::Searched,
+        Kind::CalledBack,
     ];
 
     fn profile(self, random: &mut Random) -> Profile {
@@ -75,6 +78,7 @@ impl Kind {
                 random.pick(&[0, 0, 10, 100]),
             ),
             Kind::Searched => (random.pick(&[20, 600, 2000, LONGEST_FEET]), 3, 0),
+            Kind::CalledBack => (random.pick(&[1, 50, 2000]), 4, 0),
         };
         Profile {
             longest_feet,
@@ -88,7 +92,7 @@ impl Kind {
     fn lines(self) -> usize {
         match self {
             Kind::Running => 4000,
-            Kind::Worst | Kind::Held | Kind::Searched => 2500,
+            Kind::Worst | Kind::Held | Kind::Searched | Kind::CalledBack => 2500,
             Kind::Tight | Kind::Braked | Kind::Mixture => 1600,
             Kind::Garbage => 1300,
             Kind::Tiny | Kind::Full => 1000,
@@ -125,6 +129,7 @@ pub fn list(seed: u64, kind: Kind) -> Vec<u8> {
         Kind::Garbage => garbage(&mut scene, settings),
         Kind::Openings => openings(&mut scene, settings),
         Kind::Searched => searched(&mut scene, settings),
+        Kind::CalledBack => called_back(&mut scene, settings),
         _ => open(&mut scene, settings),
     }
     while scene.lines() < kind.lines() {
@@ -167,7 +172,7 @@ fn settings(random: &mut Random, kind: Kind) -> Settings {
             ceiling: random.pick(&[100_000, 4_000_000, 20_000_000, GREATEST_CEILING]),
             traction: random.between(10_000, GREATEST_TRACTION),
         },
-        Kind::Braked => Settings {
+        Kind::Braked | Kind::CalledBack => Settings {
             line_end: LONGEST_LINE,
             safety: random.scaled(GREATEST_SAFETY),
             ceiling: random.pick(&[100_000, 2_000_000, GREATEST_CEILING]),
@@ -280,6 +285,18 @@ fn braked(scene: &mut Scene, settings: Settings) {
     while scene.lines() < Kind::Braked.lines() {
         scene.let_in();
         scene.brake_all();
+        scene.step();
+    }
+}
+
+/// Trains run, and are called back to short of their reach again and again.
+fn called_back(scene: &mut Scene, settings: Settings) {
+    open(scene, settings);
+    while scene.lines() < Kind::CalledBack.lines() {
+        scene.let_in();
+        for _ in 0..scene.random.between(1, 8) {
+            scene.call_back_short();
+        }
         scene.step();
     }
 }

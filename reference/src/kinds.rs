@@ -5,7 +5,7 @@ use crate::bench::{measure_lines, realistic, scene, Maker, Measured, FEET, SETTI
 use crate::brake::LONGEST_FEET;
 use crate::call::Refusal::{
     BeyondLimit, EnteringHead, KnownId, LineFull, NoRight, NoSuchTrain, NotLeaving, OldNumber,
-    OtherLength, OutOfTurn, Place, ReportNotAllowed, Request, Setting, Unreadable,
+    OtherLength, OutOfTurn, Pending, Place, ReportNotAllowed, Request, Setting, Unreadable,
 };
 use crate::call::{Call, Entry, Message, Refusal, Settings};
 use crate::callers::usual;
@@ -159,6 +159,7 @@ pub const CASES: &[Case] = &[
     ),
     Case::accepted("extend, repeat", For(ask_once)).after(asked),
     Case::accepted("call back", For(|train| call_back(train, train.end - 1))).after(lent),
+    Case::accepted("call back, pending", For(call_back_short)).after(under_way),
     Case::accepted("report at a stand, no track", For(stay)),
     Case::accepted("report at a stand, free track", For(stay)).after(lent),
     Case::accepted("report at a stand, held", For(stay)).after(held),
@@ -254,14 +255,20 @@ pub const CASES: &[Case] = &[
     ),
     Case::refused(
         Place,
-        "below the reach",
-        For(|train| call_back(train, train.end - 1)),
+        "behind the head",
+        For(|train| call_back(train, train.motion.head - 1)),
     ),
     Case::refused(
         Place,
         "above the end",
         For(|train| call_back(train, train.end + 1)),
     ),
+    Case::refused(
+        Pending,
+        "new number",
+        For(|train| ask(train, REQUEST + 1, 1)),
+    )
+    .after(called_back),
     Case::refused(NotLeaving, "not first", By(take_off_another)),
     Case::refused(
         NotLeaving,
@@ -337,7 +344,12 @@ fn standing(trains: usize) -> Scene {
 
 /// The same after a call for each of them.
 fn after_each(trains: usize, call: fn(&Train) -> Call) -> Scene {
-    let mut scene = standing(trains);
+    then_each(standing(trains), call)
+}
+
+/// A scene after a call for each train.
+fn then_each(mut scene: Scene, call: fn(&Train) -> Call) -> Scene {
+    let trains = scene.trains().len();
     (0..trains).for_each(|number| For(call).send(&mut scene, number));
     scene
 }
@@ -352,6 +364,16 @@ fn lent(trains: usize) -> Scene {
 
 fn held(trains: usize) -> Scene {
     after_each(trains, hold)
+}
+
+/// Each train may drive, with track ahead of it.
+fn under_way(trains: usize) -> Scene {
+    then_each(lent(trains), stay)
+}
+
+/// The same, each with a call back pending.
+fn called_back(trains: usize) -> Scene {
+    then_each(under_way(trains), call_back_short)
 }
 
 /// Each train may drive, though only with cap 0.
@@ -435,6 +457,11 @@ fn call_back(train: &Train, place: u64) -> Call {
         id: train.id,
         place,
     }
+}
+
+/// Back to its head, short of its reach.
+fn call_back_short(train: &Train) -> Call {
+    call_back(train, train.motion.head)
 }
 
 const fn report(id: u64, head: u64) -> Call {

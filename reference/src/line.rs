@@ -1,5 +1,5 @@
-//! The table of trains and its calls. Checks run in the order of document 01,
-//! and the first that applies is the answer.
+//! The table of trains and its calls. Checks run in the order of the papers, and
+//! the first that applies is the answer.
 
 use crate::brake::{Brake, STEPS_PER_FOOT};
 use crate::call::{Answer, Call, Entry, Refusal, Settings};
@@ -116,6 +116,7 @@ impl Line {
         } else if order == Order::Brake {
             train.penalty = true;
         }
+        train.settle(reach);
         let [number, cap] = order.numbers();
         Answer::accepted([number, cap, reach])
     }
@@ -137,6 +138,9 @@ impl Line {
             }
             return Answer::accepted([train.end, 1, 0]);
         }
+        if train.want.is_some() {
+            return Answer::refused(Refusal::Pending);
+        }
         let end = train.end + length;
         if !self.is_within(index, end) {
             return Answer::refused(Refusal::BeyondLimit);
@@ -153,10 +157,10 @@ impl Line {
             return Answer::refused(Refusal::NoSuchTrain);
         };
         let train = &mut self.trains[index];
-        if place < train.reach() || place > train.end {
+        if place < train.motion.head || place > train.end {
             return Answer::refused(Refusal::Place);
         }
-        train.end = place;
+        train.call_back(place);
         Answer::DONE
     }
 
@@ -206,7 +210,7 @@ impl Line {
         let bounds = Bounds {
             ceiling: self.settings.ceiling,
             traction: self.settings.traction,
-            end: train.end,
+            end: train.aim(),
         };
         let braked = || (Order::Brake, motion.reach(Order::Brake, brake));
         let stays_on = train.penalty && motion.speed > 0;

@@ -197,7 +197,7 @@ impl Woven {
 
 /// A call of this code that the table would take, mostly.
 fn fitting(code: Code, line: &Line, random: &mut Random) -> Option<Call> {
-    let index = random.below(line.trains().len().max(1) as u64) as usize;
+    let index = any_train(line, random);
     let train = line.trains().get(index).copied();
     match code {
         Code::Open => Some(Call::Open(line.settings())),
@@ -212,6 +212,13 @@ fn fitting(code: Code, line: &Line, random: &mut Random) -> Option<Call> {
             Some(Call::TakeOff { id })
         }
     }
+}
+
+/// The index of any train, often of one with a call back pending.
+fn any_train(line: &Line, random: &mut Random) -> usize {
+    let pending = line.trains().iter().position(|train| train.want.is_some());
+    let any = random.below(line.trains().len().max(1) as u64) as usize;
+    pending.filter(|_| !random.once_in(3)).unwrap_or(any)
 }
 
 /// As near behind the last train as may be.
@@ -238,17 +245,29 @@ fn report_of(train: Train, random: &mut Random) -> Call {
 }
 
 fn extension_of(train: Train, limit: Option<u64>, random: &mut Random) -> Call {
+    let id = train.id;
+    // With a call back pending, only the last one again is taken.
+    if let Some(length) = train.length.filter(|_| train.want.is_some()) {
+        let number = train.number + random.pick(&[0, 0, 1]);
+        return Call::Extend { id, number, length };
+    }
     let free = limit.unwrap_or(0).saturating_sub(train.end);
     Call::Extend {
-        id: train.id,
+        id,
         number: train.number + 1,
         length: random.scaled(free),
     }
 }
 
 fn call_back_of(train: Train, random: &mut Random) -> Call {
+    let end = train.end;
+    let (head, reach) = (train.motion.head.min(end), train.reach().min(end));
+    let place = match random.below(2) {
+        0 => random.between(head.min(reach), reach),
+        _ => random.between(reach, end),
+    };
     Call::CallBack {
         id: train.id,
-        place: random.between(train.reach().min(train.end), train.end),
+        place,
     }
 }

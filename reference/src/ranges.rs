@@ -152,8 +152,11 @@ fn naming_ranges(scene: &mut Scene) {
             scene.call(call);
         }
     }
-    let (id, reach) = (train.id, scene.reach(&train));
-    for place in [0, reach - 1, WIDEST, line_end + 1, train.end, reach] {
+    let (id, head, reach) = (train.id, train.motion.head, scene.reach(&train));
+    for place in [0, head - 1, WIDEST, line_end + 1, head, reach - 1] {
+        scene.call(Call::CallBack { id, place });
+    }
+    for place in [train.end, reach] {
         scene.call(Call::CallBack { id, place });
     }
     for (head, speed) in [(0, 0), (WIDEST, 0), (train.motion.head, WIDEST)] {

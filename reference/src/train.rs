@@ -13,6 +13,8 @@ pub struct Train {
     pub motion: Motion,
     pub order: Order,
     pub end: u64,
+    /// The place that a pending call back wants. It lies below the reach.
+    pub want: Option<u64>,
     pub held: bool,
     /// Braked while it moved, and not reported at a stand since: a penalty brake.
     pub penalty: bool,
@@ -37,6 +39,7 @@ impl Train {
         },
         order: Order::Drive(0),
         end: 0,
+        want: None,
         held: false,
         penalty: false,
         start: 0,
@@ -57,6 +60,7 @@ impl Train {
             },
             order: Order::Brake,
             end: entry.head,
+            want: None,
             held: false,
             penalty: false,
             start: entry.start,
@@ -84,6 +88,7 @@ impl Train {
             self.length.unwrap_or(0),
             u64::from(self.held),
             u64::from(self.penalty),
+            self.aim(),
         ]
     }
 
@@ -99,6 +104,40 @@ impl Train {
 
     pub fn reach(&self) -> u64 {
         self.motion.reach(self.order, self.brake)
+    }
+
+    /// Orders are worked out against the place that a pending call back wants, and
+    /// against the end where none is pending.
+    pub fn aim(&self) -> u64 {
+        self.want.unwrap_or(self.end)
+    }
+
+    /// Takes a call back: at once where the order already given stops the train by
+    /// there, and else as pending. Either way it replaces one that was pending.
+    pub fn call_back(&mut self, place: u64) {
+        if place < self.reach() {
+            self.want = Some(place);
+        } else {
+            self.end_at(place);
+        }
+    }
+
+    /// After a report's order with this reach: a pending call back is done once
+    /// the train stops by its place, or stands past it.
+    pub fn settle(&mut self, reach: u64) {
+        let Some(want) = self.want else {
+            return;
+        };
+        if reach <= want {
+            self.end_at(want);
+        } else if self.motion.speed == 0 && self.motion.head > want {
+            self.end_at(self.motion.head);
+        }
+    }
+
+    fn end_at(&mut self, place: u64) {
+        self.end = place;
+        self.want = None;
     }
 
     /// Whether a report is within the worst case of the last order.

@@ -2,39 +2,18 @@
 //! report is answered as document 01 does not say, or a caller as document 02
 //! does not. It takes those that keep all three.
 
+mod made;
+
+use made::{brake, opening, Made, CAP, CEILING, HEAD, LINE_END, REACH, SAFETY, TRACTION};
 use reference::brake::{Brake, STEPS_PER_FOOT};
-use reference::call::{Answer, Call, Code, Entry, Message, Refusal, Settings};
+use reference::call::{Answer, Call, Code, Entry, Message, Refusal};
 use reference::callers::{usual, Wrong};
-use reference::claim::{check, Broken, Penalties, Reached};
+use reference::claim::{Penalties, Reached};
 use reference::motion::{Motion, Order};
 use reference::orders::Orders;
 use reference::wire::{put_answer, put_message, FIELD_BYTES};
 
-const LINE_END: u64 = 1_000_000_000;
-const SAFETY: u64 = 1000;
-const CEILING: u64 = 5000;
-const TRACTION: u64 = 100;
-/// Where the trains of most histories enter.
-const HEAD: u64 = 10_000_000;
-/// With cap 7 a standing train comes to a speed of 7. Then it travels 14 steps
-/// at level 0, and 49 divided by the level, rounded up, at the next one.
-const CAP: u64 = 7;
-const REACH: u64 = HEAD + 7 + 14 + 1;
-
-/// Calls with the answers that a program might have given.
-#[derive(Default)]
-struct Made {
-    input: Vec<u8>,
-    output: Vec<u8>,
-}
-
 impl Made {
-    fn line() -> Made {
-        let mut made = Made::default();
-        made.accepted(opening());
-        made
-    }
-
     /// A line with two trains of one foot, number 1 in front.
     fn two_trains(first: u64, second: u64) -> Made {
         let mut made = Made::line();
@@ -43,99 +22,11 @@ impl Made {
         made
     }
 
-    fn answered(&mut self, call: Call, answer: Answer) {
-        self.told(usual(call), answer);
-    }
-
-    fn told(&mut self, message: Message, answer: Answer) {
-        put_message(message, &mut self.input);
-        put_answer(answer, &mut self.output);
-    }
-
-    /// A line with one train that has so many steps to go.
-    fn one_train(free: u64) -> Made {
-        let mut made = Made::line();
-        made.enter(1, HEAD);
-        made.extend(1, 1, free, HEAD + free);
-        made
-    }
-
-    /// A line with one train that was just told to drive with `CAP`.
-    fn driving() -> Made {
-        let mut made = Made::one_train(1000);
-        made.report(HEAD, 0, Order::Drive(CAP), REACH);
-        made
-    }
-
-    fn accepted(&mut self, call: Call) {
-        self.answered(call, Answer::DONE);
-    }
-
-    fn enter(&mut self, id: u64, head: u64) {
-        let Brake { full, growth } = brake();
-        self.enter_with(id, head, [full, growth, head]);
-    }
-
-    fn enter_with(&mut self, id: u64, head: u64, figures: [u64; 3]) {
-        let entry = Entry {
-            id,
-            head,
-            feet: 1,
-            class: 1,
-            start: 0,
-        };
-        self.answered(Call::Enter(entry), Answer::accepted(figures));
-    }
-
-    /// A report of train 1.
-    fn report(&mut self, head: u64, speed: u64, order: Order, reach: u64) {
-        let [number, cap] = order.numbers();
-        self.report_with(1, head, speed, [number, cap, reach]);
-    }
-
-    fn report_with(&mut self, id: u64, head: u64, speed: u64, values: [u64; 3]) {
-        let call = Call::Report { id, head, speed };
-        self.answered(call, Answer::accepted(values));
-    }
-
     /// A report of a standing train, answered with brake.
     fn stand(&mut self, id: u64, head: u64) {
         let [number, cap] = Order::Brake.numbers();
         self.report_with(id, head, 0, [number, cap, head]);
     }
-
-    fn extend(&mut self, id: u64, number: u64, length: u64, end: u64) {
-        let call = Call::Extend { id, number, length };
-        self.answered(call, Answer::accepted([end, 0, 0]));
-    }
-
-    fn check(&self) -> Result<Reached, Broken> {
-        check(&self.input, &self.output)
-    }
-
-    /// Refused after its last line, for this reason.
-    fn assert_broken(&self, why: &str) {
-        let broken = self.check().expect_err("the history breaks the claim");
-        assert_eq!(broken.line, self.output.split(|&b| b == b'\n').count() - 1);
-        assert!(broken.why.contains(why), "{broken:?}");
-    }
-
-    fn assert_kept(&self) {
-        assert_eq!(self.check().err(), None);
-    }
-}
-
-fn opening() -> Call {
-    Call::Open(Settings {
-        line_end: LINE_END,
-        safety: SAFETY,
-        ceiling: CEILING,
-        traction: TRACTION,
-    })
-}
-
-fn brake() -> Brake {
-    Brake::of_consist(1, 1).expect("the consist is in range")
 }
 
 fn held_count() -> u64 {

@@ -26,19 +26,20 @@ const HEAD: u64 = 14_295_120_000;
 const ENTRY: [u64; 5] = [7, HEAD, 2345, 1, 0];
 /// The train that has just entered.
 const ENTERED: Record = [
-    7, 2345, 133_303, 263, HEAD, 0, 133_303, 2, 0, HEAD, 0, 0, 0, 0, 0,
+    7, 2345, 133_303, 263, HEAD, 0, 133_303, 2, 0, HEAD, 0, 0, 0, 0, 0, HEAD,
 ];
 /// Its end after the extension by 20,000 steps, and its reach and record after
 /// the report then: drive with cap 2,534.
 const END: u64 = HEAD + 20_000;
 const REACH: u64 = HEAD + 19_993;
 const DRIVING: Record = [
-    7, 2345, 133_303, 263, HEAD, 0, 0, 1, 2534, END, 0, 1, 20_000, 0, 0,
+    7, 2345, 133_303, 263, HEAD, 0, 0, 1, 2534, END, 0, 1, 20_000, 0, 0, END,
 ];
 /// What is shown where there is no record to show: zeros, and drive as the order.
-const BLANK: Record = [0, 0, 0, 0, 0, 0, 0, 1, 0, 0, 0, 0, 0, 0, 0];
+const BLANK: Record = [0, 0, 0, 0, 0, 0, 0, 1, 0, 0, 0, 0, 0, 0, 0, 0];
 /// Columns of a record, from 0 on.
 const HEAD_COLUMN: usize = 4;
+const SPEED_COLUMN: usize = 5;
 const ORDER_COLUMN: usize = 7;
 const CAP_COLUMN: usize = 8;
 const END_COLUMN: usize = 9;
@@ -46,6 +47,7 @@ const START_COLUMN: usize = 10;
 const NUMBER_COLUMN: usize = 11;
 const LENGTH_COLUMN: usize = 12;
 const HELD_COLUMN: usize = 13;
+const WANT_COLUMN: usize = 15;
 
 fn columns(code: u64, numbers: &[u64]) -> String {
     let numbers = numbers.iter().map(|number| format!("{number:>14}"));
@@ -74,6 +76,11 @@ fn with(mut record: Record, changes: &[(usize, u64)]) -> Record {
         record[column] = number;
     }
     record
+}
+
+/// With this end, and no call back pending.
+fn ending(record: Record, end: u64) -> Record {
+    with(record, &[(END_COLUMN, end), (WANT_COLUMN, end)])
 }
 
 /// Lines, and what the desk answers to each.
@@ -202,12 +209,12 @@ fn entering_shows_the_train_and_lets_none_in() {
 fn taking_off_shows_no_train() {
     let mut scene = Scene::opened();
     let (first, behind) = (100_000_000_000, 1_000_000_000);
-    let entered = with(ENTERED, &[(HEAD_COLUMN, first), (END_COLUMN, first)]);
+    let entered = ending(with(ENTERED, &[(HEAD_COLUMN, first)]), first);
     let entry = [7, first, 2345, 1, 0];
     scene.ask(2, &entry, YARD, told(0, [133_303, 263, first], entered));
     // 138 cycles at 100 ft.
     let entered = [
-        9, 100, 162_039, 1174, behind, 0, 162_039, 2, 0, behind, 5, 5, 0, 0, 0,
+        9, 100, 162_039, 1174, behind, 0, 162_039, 2, 0, behind, 5, 5, 0, 0, 0, behind,
     ];
     let entry = [9, behind, 100, 2, 5];
     scene.ask(2, &entry, YARD, told(0, [162_039, 1174, behind], entered));
@@ -242,12 +249,9 @@ fn repeated_extension_shows_the_record_as_it_is() {
 #[test]
 fn previewed_extension_uses_no_number() {
     let extended = |length| {
-        let changes = [
-            (END_COLUMN, END + length),
-            (NUMBER_COLUMN, 2),
-            (LENGTH_COLUMN, length),
-        ];
-        told(0, [END + length, 0, 0], with(DRIVING, &changes))
+        let changes = [(NUMBER_COLUMN, 2), (LENGTH_COLUMN, length)];
+        let record = ending(with(DRIVING, &changes), END + length);
+        told(0, [END + length, 0, 0], record)
     };
     let mut scene = Scene::driving();
     scene.ask(54, &[7, 2, 1], 7, extended(1));
@@ -265,14 +269,8 @@ fn record_keeps_the_starting_number() {
     scene.ask(52, &entry, YARD, told(0, [133_303, 263, HEAD], record));
     scene.ask(2, &entry, YARD, told(0, [133_303, 263, HEAD], record));
     scene.ask(54, &[7, 5, 3], 7, without_train(11));
-    record = with(
-        record,
-        &[
-            (END_COLUMN, HEAD + 3),
-            (NUMBER_COLUMN, 9),
-            (LENGTH_COLUMN, 3),
-        ],
-    );
+    let changes = [(NUMBER_COLUMN, 9), (LENGTH_COLUMN, 3)];
+    record = ending(with(record, &changes), HEAD + 3);
     scene.ask(4, &[7, 9, 3], 7, told(0, [HEAD + 3, 0, 0], record));
     scene.play();
 }
@@ -300,7 +298,7 @@ fn hold_shows_its_mark_and_the_order_already_given() {
 fn previewed_report_closes_no_cycle() {
     let (head, speed) = (HEAD + 2534, 2534);
     let braked = [
-        7, 2345, 133_303, 263, head, speed, 0, 2, 0, END, 0, 1, 20_000, 0, 1,
+        7, 2345, 133_303, 263, head, speed, 0, 2, 0, END, 0, 1, 20_000, 0, 1, END,
     ];
     let mut scene = Scene::driving();
     for _ in 0..2 {
@@ -315,14 +313,61 @@ fn previewed_report_closes_no_cycle() {
 #[test]
 fn previewed_call_back_leaves_the_end() {
     let mut scene = Scene::driving();
-    let called = told(0, [0; 3], with(DRIVING, &[(END_COLUMN, REACH)]));
-    scene.ask(55, &[7, REACH - 1], DISPATCHER, without_train(14));
+    let called = told(0, [0; 3], ending(DRIVING, REACH));
+    scene.ask(55, &[7, HEAD - 1], DISPATCHER, without_train(14));
     scene.ask(55, &[7, END + 1], DISPATCHER, without_train(14));
     scene.ask(55, &[7, REACH], DISPATCHER, called.clone());
     scene.ask(55, &[7, END], DISPATCHER, told(0, [0; 3], DRIVING));
     scene.ask(54, &[7, 1, 20_000], 7, told(0, [END, 1, 0], DRIVING));
     scene.ask(5, &[7, REACH], DISPATCHER, called);
     scene.ask(55, &[7, END], DISPATCHER, without_train(14));
+    scene.play();
+}
+
+/// Nothing is pending after it, so the extension is taken.
+#[test]
+fn previewed_call_back_leaves_none_pending() {
+    let wanted = |place| told(0, [0; 3], with(DRIVING, &[(WANT_COLUMN, place)]));
+    let mut scene = Scene::driving();
+    scene.ask(55, &[7, REACH - 1], DISPATCHER, wanted(REACH - 1));
+    scene.ask(55, &[7, HEAD], DISPATCHER, wanted(HEAD));
+    let extended = with(DRIVING, &[(NUMBER_COLUMN, 2), (LENGTH_COLUMN, 1)]);
+    let extended = told(0, [END + 1, 0, 0], ending(extended, END + 1));
+    scene.ask(54, &[7, 2, 1], 7, extended);
+    scene.ask(5, &[7, HEAD], DISPATCHER, wanted(HEAD));
+    scene.ask(54, &[7, 2, 1], 7, without_train(17));
+    scene.play();
+}
+
+/// The last number of the record is the wanted place until the call back is done.
+#[test]
+fn previews_show_a_pending_call_back_as_it_would_be() {
+    let place = HEAD + 15_000;
+    let pending = with(DRIVING, &[(WANT_COLUMN, place)]);
+    let mut scene = Scene::driving();
+    scene.ask(5, &[7, place], DISPATCHER, told(0, [0; 3], pending));
+    let held = with(pending, &[(HELD_COLUMN, 1)]);
+    scene.ask(56, &[7], DISPATCHER, told(0, [0; 3], held));
+    scene.ask(57, &[7], DISPATCHER, told(0, [0; 3], pending));
+    scene.ask(54, &[7, 1, 20_000], 7, told(0, [END, 1, 0], pending));
+    let at_once = told(0, [0; 3], ending(DRIVING, REACH));
+    scene.ask(55, &[7, REACH], DISPATCHER, at_once);
+    let nearer = told(0, [0; 3], with(DRIVING, &[(WANT_COLUMN, HEAD + 1)]));
+    scene.ask(55, &[7, HEAD + 1], DISPATCHER, nearer);
+    scene.ask(55, &[7, HEAD - 1], DISPATCHER, without_train(14));
+    // Reported so, it drives with 293, and its end is there.
+    let done = [
+        (HEAD_COLUMN, HEAD + 1000),
+        (SPEED_COLUMN, 1500),
+        (CAP_COLUMN, 293),
+    ];
+    let done = told(
+        0,
+        [1, 293, HEAD + 14_999],
+        ending(with(DRIVING, &done), place),
+    );
+    scene.ask(53, &[7, HEAD + 1000, 1500], 7, done);
+    scene.ask(6, &[7], DISPATCHER, told(0, [0; 3], held));
     scene.play();
 }
 
@@ -371,7 +416,7 @@ fn refused_calls_show_no_train() {
     scene.ask(3, &[7, HEAD - 1, 0], 7, without_train(9));
     scene.ask(3, &[7, HEAD, 0], DISPATCHER, without_train(16));
     scene.ask(4, &[7, 1, 1], 7, without_train(12));
-    scene.ask(5, &[7, REACH - 1], DISPATCHER, without_train(14));
+    scene.ask(5, &[7, HEAD - 1], DISPATCHER, without_train(14));
     scene.ask(6, &[8], DISPATCHER, without_train(8));
     scene.ask(7, &[7], 7, without_train(16));
     scene.ask(8, &[7], YARD, without_train(15));
@@ -400,7 +445,8 @@ fn example_keeps_what_it_told() {
     assert_eq!(checked, Ok(()));
     assert_eq!([counts.lines, counts.calls.lines], [8, 6]);
     assert_eq!(counts.by_code(Code::CallBack), 2);
-    assert_eq!([counts.by_number(0), counts.by_number(14)], [1, 1]);
+    assert_eq!([counts.by_number(0), counts.by_number(14)], [2, 0]);
+    assert_eq!(counts.pending(Code::CallBack), 1);
     assert_eq!(counts.foretold(Code::CallBack).accepted, 1);
 }
 
@@ -451,7 +497,7 @@ fn tested() -> Tested {
 
 #[test]
 fn answer_lines_have_their_length() {
-    assert_eq!(SHOWN_BYTES, 254);
+    assert_eq!(SHOWN_BYTES, 268);
     assert!(lines(ANSWERS.as_bytes()).all(|line| line.len() == SHOWN_BYTES + 1));
 }
 

@@ -145,6 +145,8 @@ fn right_version_does_not_differ_from_itself() {
     assert!(seen.together > 2, "{seen:?}");
     let rare = counts.turned_away.rare(50);
     assert!(rare.is_empty(), "callers without the right: {rare:?}");
+    let rare = counts.pendings.rare(40);
+    assert!(rare.is_empty(), "pending call backs: {rare:?}");
     let rare = counts.orders.rare(200);
     assert!(rare.is_empty(), "caps found by trials: {rare:?}");
     assert!(counts.long_runs > 10, "{counts:?}");

@@ -1,7 +1,7 @@
 //! The papers' own examples: document 01's worked session and starred values, as
 //! far as document 02, (i), has them worked out again, and an example for (ii).
 //! `docs/session` has both sessions, document 01's with the report that is taken
-//! and both call-back examples.
+//! and both call-back examples, of which (vi) takes the second as pending.
 
 use reference::brake::{application_cycles, full_brake, sheet_cycles, Brake};
 use reference::call::{Answer, Call, Entry, Refusal, Settings};
@@ -99,18 +99,20 @@ fn penalty_brake_stays_on_until_the_train_stands() {
 
 /// Under the order to drive, and under the order to brake after it.
 #[test]
-fn call_back_is_judged_from_the_reach() {
+fn call_back_below_the_reach_is_pending() {
     let Call::CallBack { id, place } = calls()[8] else {
         panic!("no call back");
     };
     for count in [6, 8] {
         let mut line = line_after(count);
-        assert_eq!(
-            line.call_back(id, place - 1),
-            Answer::refused(Refusal::Place)
-        );
+        let end = line.trains()[0].end;
+        assert_eq!(line.call_back(id, place - 1), Answer::DONE);
+        let train = line.trains()[0];
+        assert_eq!((train.end, train.want), (end, Some(place - 1)));
+        assert_eq!(line.call(calls()[4]), Answer::accepted([end, 1, 0]));
         assert_eq!(line.call_back(id, place), Answer::DONE);
-        assert_eq!(line.trains()[0].end, place);
+        let train = line.trains()[0];
+        assert_eq!((train.end, train.want), (place, None));
         // The repeat of the extension is answered with the end of now.
         assert_eq!(line.call(calls()[4]), Answer::accepted([place, 1, 0]));
     }

@@ -24,6 +24,8 @@ const DEFAULT_DESK_LINES: u64 = 150_000;
 const LINES_FOR_A_WRONG_CALLER: u64 = 10_000;
 /// In so many lines a search for a cap ends in each way.
 const LINES_FOR_A_SEARCH: u64 = 2000;
+/// In so many lines a pending call back ends in each way, and meets each call.
+const LINES_FOR_A_PENDING: u64 = 20_000;
 /// In so many lines there is a long run of empty ones.
 const LINES_FOR_A_LONG_RUN: u64 = 100_000;
 /// In so many lines of the desk there is a preview of each kind.
@@ -94,6 +96,8 @@ impl Compared for Counts {
         // A search that is seldom made is hardly compared.
         let least = least_of(self.lines, LINES_FOR_A_SEARCH);
         none_is_rare("caps found by trials", least, self.orders.rare(least))?;
+        let least = least_of(self.lines, LINES_FOR_A_PENDING);
+        none_is_rare("pending call backs", least, self.pendings.rare(least))?;
         long_runs_occur(self.long_runs, self.lines)
     }
 }
@@ -309,6 +313,8 @@ fn print_counts(counts: &Counts) {
         brakes.lifted,
         brakes.together
     );
+    let ends = counts.pendings.named().map(named);
+    println!("pending call backs: {}", ends.join(", "));
     println!(
         "{} runs of {LONG_RUN} empty lines or more",
         counts.long_runs
@@ -321,6 +327,7 @@ fn print_foretold(counts: &DeskCounts) {
     print_row("accepted", |code| counts.foretold(code).accepted);
     print_row("refused", |code| counts.foretold(code).refused);
     print_row("out of turn", |code| counts.foretold(code).out_of_turn);
+    print_row("previewed as pending", |code| counts.pending(code));
     println!(
         "{} lines in {} lists, {} of them no previews; {} runs of {LONG_RUN} empty lines or more",
         counts.lines, counts.calls.lists, counts.calls.lines, counts.long_runs
