@@ -19,7 +19,7 @@ use Rattle.table.specs.Table.{placeIn, placeOf, aheadOf}
 use Rattle.line.specs.Decide.{openDecision, enterDecision, actDecision, takeOffDecision, decideOn, decided}
 use Rattle.line.specs.Step.{openStep}
 use Rattle.safety.specs.History.{history, isAccepted, doneBy, toldAct, without, toldCall, toldBy, told, rearOf}
-use Rattle.safety.specs.Worked.{sessionLine, workedDeeds, triedBeside, triedDeeds, triedAnswers, answersTo, wordsAfter, triedWords, workedWords, replacedDeeds, replacedAnswers, replacedWords, thereDeeds, thereWords, pastDeeds, pastAnswers, pastWords}
+use Rattle.safety.specs.Worked.{sessionLine, workedDeeds, triedBeside, triedDeeds, triedAnswers, answersTo, wordsAfter, triedWords, workedWords, slowLine, replacedDeeds, replacedAnswers, replacedWords, thereDeeds, thereWords, pastDeeds, pastAnswers, pastWords}
 
 pub worked :
     (wordsAfter sessionLine workedDeeds ≡ workedWords)
@@ -29,9 +29,9 @@ pub worked :
     × (answersTo sessionLine triedDeeds ≡ triedAnswers)
     × (wordsAfter sessionLine triedDeeds ≡ triedWords)
     -- a call back that is replaced; it ends at the place that it wants, or with a stand past it
-    × (answersTo sessionLine (replacedDeeds ++ pastDeeds) ≡ replacedAnswers ++ pastAnswers)
-    × (wordsAfter sessionLine replacedDeeds ≡ replacedWords)
-    × (wordsAfter sessionLine (replacedDeeds ++ thereDeeds) ≡ thereWords)
-    × (wordsAfter sessionLine (replacedDeeds ++ pastDeeds) ≡ pastWords)
+    × (answersTo slowLine (replacedDeeds ++ pastDeeds) ≡ replacedAnswers ++ pastAnswers)
+    × (wordsAfter slowLine replacedDeeds ≡ replacedWords)
+    × (wordsAfter slowLine (replacedDeeds ++ thereDeeds) ≡ thereWords)
+    × (wordsAfter slowLine (replacedDeeds ++ pastDeeds) ≡ pastWords)
 unfolding ceilDiv between carOf fullBrake applicationTime applicationCycles sheetEntry entryFor brakeCycles figuresWith figuresBy figuresOf brakeTravel brakeSpeed nextLevel driveTravel driveSpeed stands brakedCycle firstCycles enoughCycles brakedRun totalTravel stoppingDistance stoppingPlace capFits greatest orderFor inBounds firstOf mayAsk settingsInRange requestInRange stepsOf limitBehind allowed moves mustBrake orderAfter isPenalty isPending settled reported computable reportAllowed isRepeat extended isOld calledBack callBackAllowed mayLeave placeIn placeOf aheadOf openDecision enterDecision actDecision takeOffDecision decideOn decided openStep history isAccepted doneBy toldAct without toldCall toldBy told rearOf
 worked = (refl, refl, refl, refl, refl, refl, refl, refl)

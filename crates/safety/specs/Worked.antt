@@ -176,22 +176,26 @@ workedWords =
 
 -- ---- pending call backs
 
--- Train 7 drives with 2,534 and reaches 14,295,139,993. It is called back to short of that, to its head, and to a place further on, which is
--- wanted then; a new extension is 17, with track or without, and the repeat gives the end of now. Its report 2,000 fast gets brake, but would not
--- stop there; held and lifted, it brakes on, and reported slower it would: the end moves there.
+-- the same with little traction, so that few caps are to be tried
+abbrev pub slowLine : Opening
+slowLine = record { end = 200000000000; safety = 8000000000; ceiling = 26822400; traction = 10 }
+
+-- Train 7 drives with 10, and reaches 31 steps further on. It is called back to behind its head, which is 14, to its head, and to one step short of
+-- its reach, which is the place wanted then. A new extension is 17, with track or without; 12 and the repeat are as before. Its report gets brake,
+-- and leaves the call back pending: it would stop one step past the place. A hold and a lift change nothing of it.
 abbrev pub replacedDeeds : List Deed
 replacedDeeds =
     made (enter 7 14295120000 2345 1 0)
-    ∷ made (extend 7 1 20000)
+    ∷ made (extend 7 1 1000)
     ∷ made (report 7 14295120000 0)
     ∷ made (callBack 7 14295119999)
     ∷ made (callBack 7 14295120000)
-    ∷ made (callBack 7 14295135000)
+    ∷ made (callBack 7 14295120030)
     ∷ made (extend 7 2 1)
     ∷ made (extend 7 2 200000000000)
-    ∷ made (extend 7 1 20001)
-    ∷ made (extend 7 1 20000)
-    ∷ made (report 7 14295122534 2000)
+    ∷ made (extend 7 1 1001)
+    ∷ made (extend 7 1 1000)
+    ∷ made (report 7 14295120010 10)
     ∷ made (hold 7)
     ∷ made (lift 7)
     ∷ []
@@ -199,56 +203,43 @@ replacedDeeds =
 abbrev pub replacedAnswers : List Numbers
 replacedAnswers =
     numbers 0 133303 263 14295120000
-    ∷ numbers 0 14295140000 0 0
-    ∷ numbers 0 1 2534 14295139993
+    ∷ numbers 0 14295121000 0 0
+    ∷ numbers 0 1 10 14295120031
     ∷ numbers 14 0 0 0
     ∷ numbers 0 0 0 0
     ∷ numbers 0 0 0 0
     ∷ numbers 17 0 0 0
     ∷ numbers 17 0 0 0
     ∷ numbers 12 0 0 0
-    ∷ numbers 0 14295140000 1 0
-    ∷ numbers 0 2 0 14295135022
+    ∷ numbers 0 14295121000 1 0
+    ∷ numbers 0 2 0 14295120031
     ∷ numbers 0 0 0 0
     ∷ numbers 0 0 0 0
     ∷ []
 
 abbrev pub replacedWords : List Words
 replacedWords =
-    record { id = 7; start = 0; head = 14295122534; speed = 2000; rear = 2534; end = 14295140000; goal = 14295135000; held = none; braked = some 1 } ∷ []
+    record { id = 7; start = 0; head = 14295120010; speed = 10; rear = 10; end = 14295121000; goal = 14295120030; held = none; braked = some 1 } ∷ []
 
--- the place, reached: the end is there, and nothing is pending
+-- a little slower, it would stop short of the place: the end moves there, and one step more is lent
 abbrev pub thereDeeds : List Deed
-thereDeeds = made (report 7 14295126534 1900) ∷ made (extend 7 2 1) ∷ []
+thereDeeds = made (report 7 14295120020 9) ∷ made (extend 7 2 1) ∷ []
 
 abbrev pub thereWords : List Words
 thereWords =
-    record { id = 7; start = 0; head = 14295126534; speed = 1900; rear = 6534; end = 14295135001; goal = 14295135001; held = none; braked = some 2 } ∷ []
+    record { id = 7; start = 0; head = 14295120020; speed = 9; rear = 20; end = 14295120031; goal = 14295120031; held = none; braked = some 2 } ∷ []
 
--- the worst case on, to a stand past the place: that report is still answered against the place, and the end becomes the head
+-- The worst case on, to a stand past the place. That report is answered against the place still, and the end becomes the head; at the next one the
+-- train stands at its end.
 abbrev pub pastDeeds : List Deed
-pastDeeds =
-    made (report 7 14295126534 2000)
-    ∷ made (report 7 14295130271 1737)
-    ∷ made (report 7 14295133219 1211)
-    ∷ made (report 7 14295134852 422)
-    ∷ made (report 7 14295135022 0)
-    ∷ made (report 7 14295135022 0)
-    ∷ []
+pastDeeds = made (report 7 14295120030 10) ∷ made (report 7 14295120031 0) ∷ made (report 7 14295120031 0) ∷ []
 
 abbrev pub pastAnswers : List Numbers
-pastAnswers =
-    numbers 0 2 0 14295135022
-    ∷ numbers 0 2 0 14295135022
-    ∷ numbers 0 2 0 14295135022
-    ∷ numbers 0 2 0 14295135022
-    ∷ numbers 0 2 0 14295135022
-    ∷ numbers 0 1 0 14295135022
-    ∷ []
+pastAnswers = numbers 0 2 0 14295120031 ∷ numbers 0 2 0 14295120031 ∷ numbers 0 1 0 14295120031 ∷ []
 
 abbrev pub pastWords : List Words
 pastWords =
-    record { id = 7; start = 0; head = 14295135022; speed = 0; rear = 15022; end = 14295135022; goal = 14295135022; held = none; braked = none } ∷ []
+    record { id = 7; start = 0; head = 14295120031; speed = 0; rear = 31; end = 14295120031; goal = 14295120031; held = none; braked = none } ∷ []
 
 -- ---- the count of document 01's example, and histories that break the claim
 
