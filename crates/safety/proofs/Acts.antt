@@ -1,10 +1,10 @@
 -- An accepted act of a train: its record is what the history tells, the invariant holds on, and what the act gives is within bounds.
 -- Assumes nothing.
-use Prim.Native.Nat.{ℕ, zero, suc, _+_, _≤_}
+use Prim.Native.Nat.{ℕ, zero, suc, _+_, _≤_, _<_}
 use mathlib.Core.Bool.{Bool, true, false, cond, not, _&&_}
 use mathlib.Core.Logic.{by-cases}
 use mathlib.Core.Option.{Option, none, some, Option·map, Option·getD}
-use mathlib.Core.Path.{_≡_, refl, sym, _∙_, subst}
+use mathlib.Core.Path.{_≡_, refl, sym, ap, _∙_, subst}
 use native.Mathlib.Decide.{ℕ-discrete}
 use native.Mathlib.Nat.{le-refl}
 use native.Mathlib.Omega.{arith}
@@ -20,7 +20,7 @@ use Rattle.motion.specs.declared.Order.{Order}
 use Rattle.motion.specs.declared.Order.the-variants.{Drive, Brake}
 use Rattle.motion.specs.Motion.{stands}
 use Rattle.motion.specs.Orders.{orderCap, isBrake, worstCase, reach}
-use Rattle.motion.proofs.Domination.{NoWorse}
+use Rattle.motion.proofs.Domination.{NoWorse, reach-stands}
 use Rattle.motion.proofs.Slowing.{Slowed, slowed-start, slowed-brake}
 use Rattle.calls.specs.declared.Reading.{Reading}
 use Rattle.calls.specs.declared.Extension.{Extension}
@@ -48,7 +48,7 @@ use Rattle.train.proofs.Checks.{report-allowed, allowed-head, allowed-no-worse}
 use Rattle.acts.proofs.Checks.{call-back-allowed}
 use Rattle.safety.specs.History.{Counts, Told, levelAfter, orderIn, brakedAfter, longer, doneBy, still, toldAct}
 use Rattle.safety.specs.Claim.{recordOf}
-use Rattle.safety.proofs.Train.{Guarded, guarded-report, guarded-still}
+use Rattle.safety.proofs.Train.{AtRest, Guarded, guarded-report, guarded-still}
 
 -- ---- the invariant of a train that the history tells of
 
@@ -168,13 +168,13 @@ module _ (σ : Settings) (limit : Limit) (x : Told) (steady : Steady σ limit x)
   abbrev stays : Authority → Counts → Told
   stays a n = record { entry = x .entry; figures = x .figures; now = still (x .now) a n }
 
-  steady-still : (a : Authority) (c : Option ℕ) → InLimit limit (a .end) → Aims (reachOf (recordOf x)) a → Slowing σ (recordOf x) c
+  steady-still : (a : Authority) (c : Option ℕ) → InLimit limit (a .end) → Aims (reachOf (recordOf x)) a → AtRest (recordOf x) a → Slowing σ (recordOf x) c
       → Steady σ limit (stays a (record { held = c; braked = x .now .counts .braked }))
   unfolding recordOf
-  steady-still a c limited aims slow =
+  steady-still a c limited aims rests slow =
       record {
         consist = steady .consist;
-        guarded = guarded-still σ limit (recordOf x) (steady .guarded) a _ limited aims;
+        guarded = guarded-still σ limit (recordOf x) (steady .guarded) a _ limited aims rests;
         held-slows = go c slow;
         braked-slows = go (x .now .counts .braked) (steady .braked-slows);
       }
@@ -192,12 +192,21 @@ module _ (σ : Settings) (limit : Limit) (x : Told) (steady : Steady σ limit x)
   -- b says whether an extension is a repeat
   extended-end : (q : Extension) (b : Bool) → not b && not (withinLimit limit (x .now .authority .end + q .length)) ≡ false
       → let a = cond b (x .now .authority) (granted (x .now .authority) q) in
-      InLimit limit (a .end) × Aims (reachOf (recordOf x)) a
+      InLimit limit (a .end) × Aims (reachOf (recordOf x)) a × AtRest (recordOf x) a
   unfolding recordOf
-  extended-end q true e = (steady .guarded .end-in-limit, steady .guarded .aims)
+  extended-end q true e = (steady .guarded .end-in-limit, steady .guarded .aims, steady .guarded .at-rest)
   extended-end q false e =
       let reached = steady .guarded .aims .reach in
-      (limit-tested limit _ (not-false _ e), record { reach = omega arith; goal = le-refl _; short = λ pending. absurd (pending refl) })
+      (limit-tested limit _ (not-false _ e), record { reach = omega arith; goal = le-refl _; short = λ pending. absurd (pending refl) }, λ braked standing. refl)
+
+  -- a train that stands under brake reaches no further than its head
+  wanted-moving : (p : ℕ) → recordOf x .motion .head ≤ p → p < reachOf (recordOf x) → AtRest (recordOf x) (wanting (x .now .authority) p)
+  unfolding recordOf stands
+  wanted-moving p behind short braked standing =
+      let m = recordOf x .motion in
+      let here = reach-stands (x .figures) m (steady .guarded .figures) (eq-eqb (m .speed) 0 standing) in
+      let under = ap (reach (x .figures) m) braked in
+      absurd (omega arith)
 
   -- ---- any act
 
@@ -221,11 +230,11 @@ module _ (σ : Settings) (limit : Limit) (x : Told) (steady : Steady σ limit x)
   act-kept (Extend q) e =
       let last = passed _ _ _ (passed _ _ _ (passed _ _ _ (passed _ _ _ (passed _ _ _ e .1) .1) .1) .1) in
       let a = longer (x .now .authority) q in
-      let (limited, aims) = extended-end q (eqb (q .number) (x .now .authority .number)) (last .0) in
+      let (limited, aims, rests) = extended-end q (eqb (q .number) (x .now .authority .number)) (last .0) in
       let same : recordOf (afterAct (Extend q)) ≡ extended (recordOf x) q = by-test (eqb (q .number) (x .now .authority .number)) (λ e. rw e) (λ e. rw e) in
       record {
         told = same;
-        keeps = steady-still a (x .now .counts .held) limited aims (steady .held-slows);
+        keeps = steady-still a (x .now .counts .held) limited aims rests (steady .held-slows);
         onward = le-refl _;
         within = subst (λ (y : Train). InLimit limit (y .authority .end)) same limited;
       }
@@ -234,19 +243,19 @@ module _ (σ : Settings) (limit : Limit) (x : Told) (steady : Steady σ limit x)
       let g = steady .guarded in
       by-test (leb (reachOf (recordOf x)) p)
       (λ far.
-      let moved = steady-still (endingAt (x .now .authority) p) (x .now .counts .held) (limit-below limit high (g .end-in-limit)) (record { reach = leb-true _ _ far; goal = le-refl _; short = λ pending. absurd (pending refl) }) (steady .held-slows) in
+      let moved = steady-still (endingAt (x .now .authority) p) (x .now .counts .held) (limit-below limit high (g .end-in-limit)) (record { reach = leb-true _ _ far; goal = le-refl _; short = λ pending. absurd (pending refl) }) (λ braked standing. refl) (steady .held-slows) in
       record { told = rw far; keeps = rw far moved; onward = le-refl _; within = tt })
       (λ short.
-      let waits = steady-still (wanting (x .now .authority) p) (x .now .counts .held) (g .end-in-limit) (record { reach = g .aims .reach; goal = high; short = λ pending. leb-false _ _ short }) (steady .held-slows) in
+      let waits = steady-still (wanting (x .now .authority) p) (x .now .counts .held) (g .end-in-limit) (record { reach = g .aims .reach; goal = high; short = λ pending. leb-false _ _ short }) (wanted-moving p behind (leb-false _ _ short)) (steady .held-slows) in
       record { told = rw short; keeps = rw short waits; onward = le-refl _; within = tt })
   act-kept Hold e =
       let g = steady .guarded in
       record {
         told = refl;
-        keeps = steady-still (x .now .authority) (some (Option·getD (x .now .counts .held) 0)) (g .end-in-limit) (g .aims) (slowing-hold (x .now .counts .held) (steady .held-slows));
+        keeps = steady-still (x .now .authority) (some (Option·getD (x .now .counts .held) 0)) (g .end-in-limit) (g .aims) (g .at-rest) (slowing-hold (x .now .counts .held) (steady .held-slows));
         onward = le-refl _;
         within = tt;
       }
   act-kept Lift e =
       let g = steady .guarded in
-      record { told = refl; keeps = steady-still (x .now .authority) none (g .end-in-limit) (g .aims) tt; onward = le-refl _; within = tt }
+      record { told = refl; keeps = steady-still (x .now .authority) none (g .end-in-limit) (g .aims) (g .at-rest) tt; onward = le-refl _; within = tt }

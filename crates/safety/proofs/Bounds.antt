@@ -28,7 +28,7 @@ use Rattle.calls.specs.declared.Values.the-variants.{Zeros}
 use Rattle.ranges.specs.Ranges.{between}
 use Rattle.train.specs.Ranges.{settingsInRange, WorksWith}
 use Rattle.table.specs.Table.{trainAt, limitAt}
-use Rattle.train.specs.Report.{reachOf, allowed, motionAfter, computable, reportAllowed}
+use Rattle.train.specs.Report.{allowed, motionAfter, computable, reportAllowed}
 use Rattle.acts.specs.Acts.{callBackAllowed}
 use Rattle.line.specs.Step.{outcome, openStep}
 use Rattle.line.proofs.Steps.{open-made}

@@ -74,6 +74,7 @@ lined-wider σ a b wider (x ∷ xs) l =
       rear-on-line = g .rear-on-line;
       end-in-limit = wider _ (g .end-in-limit);
       aims = g .aims;
+      at-rest = g .at-rest;
       within = g .within;
     } in
     (record { consist = l .0 .consist; guarded = guarded; held-slows = l .0 .held-slows; braked-slows = l .0 .braked-slows }, l .1, l .2)

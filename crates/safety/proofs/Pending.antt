@@ -33,7 +33,8 @@ use Rattle.calls.specs.declared.Ask.{Ask}
 use Rattle.calls.specs.declared.Ask.the-variants.{Open, OnTable}
 use Rattle.calls.specs.declared.Request.{Request}
 use Rattle.calls.specs.declared.Refusal.{Refusal}
-use Rattle.calls.specs.declared.Answer.the-variants.{Accepted}
+use Rattle.calls.specs.declared.Refusal.the-variants.{NotLeaving}
+use Rattle.calls.specs.declared.Answer.the-variants.{Accepted, Refused}
 use Rattle.calls.specs.declared.Values.the-variants.{Zeros}
 use Rattle.calls.specs.Answers.{numbersOf}
 use Rattle.calls.specs.Requests.{request}
@@ -41,7 +42,6 @@ use Rattle.calls.specs.Checks.{firstOf}
 use Rattle.calls.proofs.Checks.{passed}
 use Rattle.train.specs.declared.Settings.{Settings}
 use Rattle.train.specs.declared.Limit.{Limit}
-use Rattle.train.specs.declared.Authority.{Authority}
 use Rattle.train.specs.declared.Train.{Train}
 use Rattle.train.specs.Report.{reachOf, allowed, motionAfter, reported}
 use Rattle.train.proofs.Checks.{report-allowed, allowed-no-worse}
@@ -57,13 +57,13 @@ use Rattle.line.specs.Decide.{rulingAt}
 use Rattle.line.specs.declared.Outcome.{Outcome}
 use Rattle.line.specs.Step.{outcome, requested, openStep}
 use Rattle.line.proofs.Steps.{step}
-use Rattle.line.proofs.Rules.{own-step}
+use Rattle.line.proofs.Rules.{own-step, take-off-15}
 use Rattle.line.proofs.Stays.{Holds, Keeps, still-holds, request-taken, own-accepted}
 use Rattle.safety.specs.History.{Deed, made, tried, done, Event, history, after, isAccepted}
 use Rattle.safety.proofs.Train.{Guarded, report-aims, guarded-report}
 use Rattle.safety.proofs.Calls.{agrees}
 use Rattle.safety.proofs.Bounds.{track}
-use Rattle.safety.proofs.Repeats.{Takes, takes, Stays}
+use Rattle.safety.proofs.Repeats.{Takes, takes}
 
 -- what n reports in a row, after each of which a call back is pending, come to: the train moves under brake, and has slowed down
 abbrev Braking : ℕ → ℕ → Train → Type 0
@@ -94,6 +94,10 @@ module _ (o : Opening) (t : Table) (opened : openStep o ≡ outcome (Accepted Ze
 
     pub pending-short : (x .authority .goal ≡ x .authority .end → ⊥) → x .authority .goal < reach (x .figures) (x .motion) (x .order)
     pending-short = guarded .aims .short
+
+    -- the train is not taken off meanwhile: it does not stand under brake
+    pub pending-stays : (x .authority .goal ≡ x .authority .end → ⊥) → step now (TakeOff id) ≡ outcome (Refused NotLeaving) now
+    pending-stays pending = take-off-15 now id i found (λ leaves. pending (guarded .at-rest (leaves .2) (leaves .1)))
 
     -- the train's record after an act of it, whether it was taken or not
     abbrev then : Act → Train
@@ -226,12 +230,11 @@ module _ (o : Opening) (t : Table) (opened : openStep o ≡ outcome (Accepted Ze
   -- a deed that is no accepted report of the train leaves what its reports have come to
   abbrev Another : ℕ → Deed → Table → Type 0
   Another n d u =
-      (Takes (OnTable (TakeOff id)) (eventOf u d) → ⊥) → (Reported id (eventOf u d) → ⊥)
-      → Holds (Braking (o .ceiling) n) id u → Holds (Braking (o .ceiling) n) id (done u d .table)
+      Waiting id u → (Reported id (eventOf u d) → ⊥) → Holds (Braking (o .ceiling) n) id u → Holds (Braking (o .ceiling) n) id (done u d .table)
 
   another : (before : List Deed) (n : ℕ) (d : Deed) → Another n d (after t before)
-  another before n (tried r) stays other h = h
-  another before n (made r) stays other h = still-holds (Braking (o .ceiling) n) id u (agrees o t opened before .sized) h r (keeps (r .ask) refl)
+  another before n (tried r) waiting other h = h
+  another before n (made r) waiting other h = still-holds (Braking (o .ceiling) n) id u (agrees o t opened before .sized) h r (keeps (r .ask) refl)
     where
       u : Table
       u = after t before
@@ -242,7 +245,11 @@ module _ (o : Opening) (t : Table) (opened : openStep o ≡ outcome (Accepted Ze
       keeps (OnTable (Own j a)) asks = λ mine taken σ limit x passes.
           braking-act (o .ceiling) n σ limit x a
           (λ q is. other (q, takes (eventOf u (made r)) r _ refl (asks ∙ ap (λ (k : ℕ). OnTable (Own k a)) mine ∙ ap (λ (b : Act). OnTable (Own id b)) is) taken))
-      keeps (OnTable (TakeOff j)) asks = λ mine taken. stays (takes (eventOf u (made r)) r _ refl (asks ∙ ap (λ (k : ℕ). OnTable (TakeOff k)) mine) taken)
+      keeps (OnTable (TakeOff j)) asks = λ mine taken.
+          let steps = request-taken u r (TakeOff id) (asks ∙ ap (λ (k : ℕ). OnTable (TakeOff k)) mine) taken in
+          let stays = pending-stays o t opened before id (waiting .place) (waiting .found) (waiting .so) in
+          let number = ap (λ (w : Outcome). numbersOf (w .answer) .number) (steps ∙ stays) in
+          absurd (omega arith)
 
   -- an accepted report of it, after which the call back is pending still, is one more
   abbrev OneMore : ℕ → Deed → Table → Type 0
@@ -271,29 +278,29 @@ module _ (o : Opening) (t : Table) (opened : openStep o ≡ outcome (Accepted Ze
           (braking-on o t opened before id (h .place) (h .found) r (ap (λ (w : Outcome). numbersOf (w .answer) .number) (sym steps) ∙ taken) n) (h .so))
 
   -- so many reports, and the train slows down all along
-  slows : (since before : List Deed) (u : Table) → u ≡ after t before → (k n : ℕ) → Holds (Braking (o .ceiling) k) id u → Stays id (history u since)
+  slows : (since before : List Deed) (u : Table) → u ≡ after t before → (k n : ℕ) → Holds (Braking (o .ceiling) k) id u → Waiting id u
       → Waits id u since → Reports id n (history u since) → Holds (Braking (o .ceiling) (k + n)) id (after u since)
   unfolding history after
-  slows [] before u is k n h stays waits reports =
+  slows [] before u is k n h now waits reports =
       let same : k ≡ k + n = omega arith in subst (λ (l : ℕ). Holds (Braking (o .ceiling) l) id u) same h
-  slows (d ∷ since) before u is k n h (here, stays) (waiting, waits) (inl (m, more, reported, reports)) =
+  slows (d ∷ since) before u is k n h now (waiting, waits) (inl (m, more, reported, reports)) =
       let same : suc k + m ≡ k + n = omega arith in
       subst (λ (l : ℕ). Holds (Braking (o .ceiling) l) id (after (done u d .table) since)) same
-      (slows since (before ++ (d ∷ [])) (done u d .table) (follows t before u d is) (suc k) m (subst (OneMore k d) (sym is) (one-more before k d) reported waiting h) stays waits reports)
-  slows (d ∷ since) before u is k n h (here, stays) (waiting, waits) (inr (other, reports)) =
-      slows since (before ++ (d ∷ [])) (done u d .table) (follows t before u d is) k n (subst (Another k d) (sym is) (another before k d) here other h) stays waits reports
+      (slows since (before ++ (d ∷ [])) (done u d .table) (follows t before u d is) (suc k) m (subst (OneMore k d) (sym is) (one-more before k d) reported waiting h) waiting waits reports)
+  slows (d ∷ since) before u is k n h now (waiting, waits) (inr (other, reports)) =
+      slows since (before ++ (d ∷ [])) (done u d .table) (follows t before u d is) k n (subst (Another k d) (sym is) (another before k d) now other h) waiting waits reports
 
-  -- After the calls `before`, n accepted reports of the train in one stay, and a call back of it pending all along, a newer one too: they are fewer
-  -- than "1 + B/j + V/B ..., both quotients rounded up".
+  -- Where a call back of the train is pending, and after each of the deeds `since` one is, the same or a newer one: its accepted reports among them,
+  -- n, are fewer than "1 + B/j + V/B ..., both quotients rounded up".
   pub pending-ends : (before since : List Deed)
       → let now = after t before in
       let then = after now since in
-      (found : (i : ℕ) × (placeOf now id ≡ some i)) → Stays id (history now since) → Waits id now since → (n : ℕ) → Reports id n (history now since)
+      Waiting id now → Waits id now since → (n : ℕ) → Reports id n (history now since)
       → (i p q : ℕ) → placeOf then id ≡ some i → RoundedUp p (trainAt then i .figures .full) (trainAt then i .figures .growth)
       → RoundedUp q (o .ceiling) (trainAt then i .figures .full) → n < 1 + p + q
   unfolding stands
-  pending-ends before since found stays waits n reports i p q there growing slowing =
-      let h = slows since before now refl 0 n (record { place = found .0; found = found .1; so = tt }) stays waits reports in
+  pending-ends before since waiting waits n reports i p q there growing slowing =
+      let h = slows since before now refl 0 n (record { place = waiting .place; found = waiting .found; so = tt }) waiting waits reports in
       let here : h .place ≡ i = cc (h .found, there) in
       let same : 0 + n ≡ n = omega arith in
       go n (subst (λ (l : ℕ). Braking (o .ceiling) l x) same (subst (λ (j : ℕ). Braking (o .ceiling) (0 + n) (trainAt then j)) here (h .so)))

@@ -1,6 +1,5 @@
 -- `acts_code::call_back_to` meets its contract.
 -- Assumes nothing.
-use mathlib.Core.Path.{sym}
 use borrow.Author.Needs.{needs}
 use borrow.Author.Tests.{le-leb, lt-leb}
 use Rattle.acts.specs.Acts.{calledBack}

@@ -2,7 +2,6 @@
 -- Assumes nothing.
 use Rattle.train.specs.Report.{reported}
 use Rattle.train.proofs.Records.{report-passed}
-use borrow.Author.Needs.{needs}
 use Rattle.train_code.proofs.report_on.Statement.{statement}
 use Rattle.train_code.proofs.report_on.Tie as tie
 
