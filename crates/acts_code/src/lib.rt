@@ -106,7 +106,8 @@ fn report(s: Settings, x: Train, r: Reading) -> Verdict
     Verdict::Passed(Values::Ordered(o, after.reach), y)
 }
 
-// Extend: a new number adds its length if no call back is pending and the new end is within the limit, and the last accepted one again adds none.
+// Extend: a new number adds its length if the new end is within the limit, and the last accepted one again adds none. While a call back is
+// pending, orders aim at another place than the end, and no new number is taken.
 fn extend(s: Settings, limit: Limit, x: Train, q: Extension) -> Verdict
     ensures { λ v. ⌜ v ≡ verdict (extending s limit x q) ⌝ }
 {

@@ -37,7 +37,7 @@ endingAt a place = authorityTo place (a .start) (a .number) (a .length)
 abbrev pub wanting : Authority → ℕ → Authority
 wanting a place = record { end = a .end; goal = place; start = a .start; number = a .number; length = a .length }
 
--- a place short of the end is wanted
+-- a call back is pending: orders aim at another place than the end
 unfoldable pub isPending : Authority → Bool
 isPending a = not (eqb (a .goal) (a .end))
 

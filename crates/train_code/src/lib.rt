@@ -111,7 +111,7 @@ pub fn figures_for(s: Settings, e: Entry) -> FiguresFound
     brake::figures_of(e.load, e.length)
 }
 
-// Every authority is made here. No call back is pending in it: orders are worked out against its end.
+// Every authority with no call back pending is made here: orders are worked out against its end.
 pub fn authority_to(end: u64, start: u64, number: u64, length: u64) -> Authority
     ensures { λ r. ⌜ r ≡ authorityTo end start number length ⌝ }
 {
@@ -178,7 +178,7 @@ pub fn new_train(e: Entry, k: Figures) -> Train
 }
 
 // Where a pending call back ends: at the place that it wants, once the order just given stops the train there, or at the head of a train that
-// stands past it.
+// stands past it. None is pending where orders aim at the end.
 fn settle(a: Authority, standing: bool, head: u64, reach: u64) -> Authority
     ensures { λ r. ⌜ r ≡ settled a standing head reach ⌝ }
 {
