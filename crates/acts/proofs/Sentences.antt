@@ -1,15 +1,15 @@
--- Document 01, "Authorities" and "What is turned down", and document 02, (vi) and (vii), said a second time of one train: in numbers and in the fields
+-- Document 01, "Authorities" and "What is turned down", and document 02, (vi), said a second time of one train: in numbers and in the fields
 -- of its record, where the definitions test and choose. A wrong definition is refused here, whatever the code.
 -- Assumes nothing.
-use Prim.Native.Nat.{ℕ, ◌+◌, ◌-◌, ◌≤◌, ◌<◌}
+use Prim.Native.Nat.{ℕ, ◌+◌, ◌≤◌, ◌<◌}
 use mathlib.Core.Bool.{true, false, ◌&&◌}
 use mathlib.Core.Logic.{by_cases, ◌⊎◌, inl, inr, ◌↔◌}
-use mathlib.Core.Option.{Option, none}
-use mathlib.Core.Path.{◌≡◌, refl, sym, ap, subst, ◌∙◌}
+use mathlib.Core.Option.{none}
+use mathlib.Core.Path.{◌≡◌, refl, sym, subst, ◌∙◌}
 use native.Mathlib.Decide.{ℕ_discrete, dec_lt}
 use native.Mathlib.Omega.{arith}
 use lib.Dec.{leb, ltb, eqb}
-use borrow.Author.Tests.{le-leb, lt-leb, lt-ltb, le-ltb, eq-eqb, eqb-true, leb-true, leb-false, ltb-false, not-false}
+use borrow.Author.Tests.{le-leb, lt-leb, lt-ltb, le-ltb, eq-eqb, eqb-true, leb-false, ltb-false, not-false}
 use Rattle.logic.proofs.Tests.{by_test, both, not_both, neither}
 use Rattle.ranges.specs.Ranges.{number_in_range, between}
 use Rattle.ranges.proofs.Ranges.{between_exactly}
@@ -23,10 +23,10 @@ use Rattle.motion.proofs.Domination.{head_reach}
 use Rattle.calls.specs.declared.Reading.{Reading}
 use Rattle.calls.specs.declared.Extension.{Extension}
 use Rattle.calls.specs.declared.Act.{Act}
-use Rattle.calls.specs.declared.Act.TheVariants.{Report, Extend, CallBack, Hold, Lift, Undo}
+use Rattle.calls.specs.declared.Act.TheVariants.{Report, Extend, CallBack, Hold, Lift}
 use Rattle.calls.specs.declared.Refusal.{Refusal}
-use Rattle.calls.specs.declared.Refusal.TheVariants.{NotAllowed, BadRequest, OldNumber, OtherLength, NoTrack, BadPlace, Pending, NothingToUndo, ReachPast}
-use Rattle.calls.specs.declared.Values.TheVariants.{Ordered, Extended, Single, Zeros}
+use Rattle.calls.specs.declared.Refusal.TheVariants.{NotAllowed, BadRequest, OldNumber, OtherLength, NoTrack, BadPlace, Pending}
+use Rattle.calls.specs.declared.Values.TheVariants.{Ordered, Extended, Zeros}
 use Rattle.calls.specs.Checks.{first_of}
 use Rattle.calls.proofs.Checks.{passed}
 use Rattle.train.specs.declared.Settings.{Settings}
@@ -37,13 +37,13 @@ use Rattle.acts.specs.declared.Verdict.{Verdict}
 use Rattle.acts.specs.declared.Verdict.TheVariants.{TurnedDown, Passed}
 use Rattle.train.specs.Record.{same}
 use Rattle.train.specs.Report.{reach_of, order_after, is_penalty, settled, reported, computable, report_allowed}
-use Rattle.acts.specs.Acts.{request_in_range, is_old, is_repeat, extended, called_back, call_back_allowed, undo_allowed, may_leave}
-use Rattle.acts.specs.Decide.{decide, verdict_by, verdict}
+use Rattle.acts.specs.Acts.{request_in_range, is_old, is_repeat, extended, called_back, call_back_allowed, may_leave}
+use Rattle.acts.specs.Decide.{decide, verdict}
 use Rattle.train.proofs.Track.{InLimit, limit_within, limit_beyond}
 use Rattle.train.proofs.Records.{report_passed}
 use Rattle.train.proofs.Sentences.{Allows, report_exactly, level_found, motion_found, penalty_order}
-use Rattle.train.proofs.Pending.{settled_none, settled_numbers, settled_undone}
-use Rattle.acts.proofs.Verdicts.{report_refused, report_taken, extend_bad, extend_old, extend_other, extend_repeat, extend_pending, extend_beyond, extend_new, call_back_refused, call_back_taken, undo_none, undo_refused, undo_taken}
+use Rattle.train.proofs.Pending.{settled_numbers}
+use Rattle.acts.proofs.Verdicts.{report_refused, report_taken, extend_bad, extend_old, extend_other, extend_repeat, extend_pending, extend_beyond, extend_new, call_back_refused, call_back_taken}
 
 -- ---- reports
 
@@ -142,7 +142,7 @@ module _ (σ : Settings) (limit : Limit) (x : Train) (q : Extension) where
           -- "A new number (above the last accepted or starting one) adds the length if the new end is within the limit."
           pub extension_taken : InLimit limit (mine.end + q.length)
               → let longer : Authority =
-              record { end = mine.end + q.length; goal = mine.end + q.length; start = mine.start; number = q.number; length = q.length; undoable = q.length } in
+              record { end = mine.end + q.length; goal = mine.end + q.length; start = mine.start; number = q.number; length = q.length } in
               extension ≡ Passed (Extended (mine.end + q.length) false) (same x x.motion x.order longer x.marks)
           extension_taken near =
               extend_new σ x limit q (ranged σ q a) (fresh (omega arith)) (λ e. omega arith) free (limit_within limit _ near)
@@ -192,17 +192,6 @@ module _ (σ : Settings) (limit : Limit) (x : Train) (q : Extension) where
         length = length;
       }
 
-  -- and with a new number no call back was pending
-  pub extension_free : first_of (decide σ limit x (Extend q)).checks ≡ none → mine.number < q.number → mine.goal ≡ mine.end
-  extension_free e new =
-      by_cases (ℕ_discrete mine.goal mine.end)
-      (λ free. free)
-      (λ pending.
-      let p = extension_accepted e in
-      let passes = ap (λ (f : Option Refusal). verdict_by f (decide σ limit x (Extend q))) e in
-      let z : ◌≡◌ {A = ℕ} 0 1 = cc (extension_17 p.formed p.above new pending, passes) in
-      absurd (omega arith))
-
 -- ---- call back
 
 pub call_back_between : (x : Train) (place : ℕ) → call_back_allowed x place ≡ true → (x.motion.head ≤ place) × (place ≤ x.authority.end)
@@ -223,7 +212,7 @@ module _ (σ : Settings) (limit : Limit) (x : Train) (place : ℕ) where
 
   -- "the end becomes a named place from reach to end, both included", whatever was pending
   pub call_back_moves : computable x ≡ true → reach x.figures x.motion x.order ≤ place → place ≤ x.authority.end
-      → let nearer : Authority = record { end = place; goal = place; start = x.authority.start; number = x.authority.number; length = x.authority.length; undoable = 0 } in
+      → let nearer : Authority = record { end = place; goal = place; start = x.authority.start; number = x.authority.number; length = x.authority.length } in
       calling ≡ Passed Zeros (same x x.motion x.order nearer x.marks)
   unfolding called_back
   call_back_moves computes low high =
@@ -233,7 +222,7 @@ module _ (σ : Settings) (limit : Limit) (x : Train) (place : ℕ) where
   -- "A call back from the train's head up to just short of its reach is now taken as pending"; "a newer call back ... replaces this one": the
   -- place is wanted, whatever was pending, and the end stays
   pub call_back_pends : computable x ≡ true → x.motion.head ≤ place → place < reach x.figures x.motion x.order → place ≤ x.authority.end
-      → let waiting : Authority = record { end = x.authority.end; goal = place; start = x.authority.start; number = x.authority.number; length = x.authority.length; undoable = 0 } in
+      → let waiting : Authority = record { end = x.authority.end; goal = place; start = x.authority.start; number = x.authority.number; length = x.authority.length } in
       calling ≡ Passed Zeros (same x x.motion x.order waiting x.marks)
   unfolding called_back
   call_back_pends computes low short high =
@@ -246,77 +235,6 @@ module _ (σ : Settings) (limit : Limit) (x : Train) (place : ℕ) where
       out : (x.motion.head ≤ place) × (place ≤ x.authority.end) → (place < x.motion.head) ⊎ (x.authority.end < place) → ⊥
       out ends (inl low) = omega arith
       out ends (inr high) = omega arith
-
--- ---- undo
-
-pub undo_near : (x : Train) → undo_allowed x ≡ true → reach x.figures x.motion x.order + x.authority.undoable ≤ x.authority.end
-unfolding undo_allowed
-undo_near x e = leb-true _ _ (both (computable x) _ e).1
-
-pub undo_tested : (x : Train) → computable x ≡ true → undo_allowed x ≡ leb (reach_of x + x.authority.undoable) x.authority.end
-unfolding undo_allowed
-undo_tested x e = rw e
-
-module _ (σ : Settings) (limit : Limit) (x : Train) where
-  abbrev undo : Verdict
-  undo = verdict (decide σ limit x Undo)
-
-  -- 18: nothing is left to undo
-  pub undoing_18 : x.authority.undoable ≡ 0 → undo ≡ TurnedDown NothingToUndo
-  undoing_18 nothing = undo_none x nothing
-
-  module _ (left : 0 < x.authority.undoable) where
-    -- 19 "the reach lies past the shorter end"
-    pub undoing_19 : x.authority.end < reach x.figures x.motion x.order + x.authority.undoable → undo ≡ TurnedDown ReachPast
-    undoing_19 past =
-        undo_refused x (λ e. omega arith) (by_test (undo_allowed x) (λ e. let near = undo_near x e in absurd (omega arith)) (λ e. e))
-
-    -- "Undoing takes off the length"; "number and length stay used and nothing is left to undo"; "The answer is the shorter end". The rest stays.
-    pub undoing_taken : computable x ≡ true → reach x.figures x.motion x.order + x.authority.undoable ≤ x.authority.end
-        → let e = x.authority.end - x.authority.undoable in
-        let shorter : Authority = record { end = e; goal = e; start = x.authority.start; number = x.authority.number; length = x.authority.length; undoable = 0 } in
-        undo ≡ Passed (Single e) (same x x.motion x.order shorter x.marks)
-    undoing_taken computes near = undo_taken x (λ e. omega arith) (undo_tested x computes ∙ le-leb _ _ near)
-
--- "straight after the extension, the record is then as before it, except that number and length stay used and nothing is left to undo": of a
--- train with no call back pending, for else the extension is 17, and with its reach within its end, as on every table that calls left
-pub undoing_straight_after : (σ : Settings) (limit : Limit) (x : Train) (q : Extension) → computable x ≡ true → x.authority.goal ≡ x.authority.end
-    → reach x.figures x.motion x.order ≤ x.authority.end → 1 ≤ q.length
-    → let e = x.authority.end + q.length in
-    let longer : Authority = record { end = e; goal = e; start = x.authority.start; number = q.number; length = q.length; undoable = q.length } in
-    let back : Authority = record { end = x.authority.end; goal = x.authority.goal; start = x.authority.start; number = q.number; length = q.length; undoable = 0 } in
-    verdict (decide σ limit (same x x.motion x.order longer x.marks) Undo) ≡ Passed (Single x.authority.end) (same x x.motion x.order back x.marks)
-unfolding computable
-undoing_straight_after σ limit x q computes free within least =
-    let e = x.authority.end + q.length in
-    let y = same x x.motion x.order (record { end = e; goal = e; start = x.authority.start; number = q.number; length = q.length; undoable = q.length }) x.marks in
-    let before : e - q.length ≡ x.authority.end = omega arith in
-    undoing_taken σ limit y least computes (omega arith) ∙ rw (before, free)
-
--- ---- what is left to undo
-
--- Nothing but a call back, an undoing and an extension with a new number touches the authority, where no call back is pending.
-pub authority_stays : (σ : Settings) (limit : Limit) (x : Train) (a : Act) → x.authority.goal ≡ x.authority.end
-    → ((place : ℕ) → a ≡ CallBack place → ⊥) → (a ≡ Undo → ⊥) → ((q : Extension) → a ≡ Extend q → q.number ≡ x.authority.number)
-    → (decide σ limit x a).after.authority ≡ x.authority
-unfolding reported extended is_repeat
-authority_stays σ limit x (Report r) free called undone last = settled_none x.authority _ _ _ free
-authority_stays σ limit x (Extend q) free called undone last = rw (eq-eqb q.number x.authority.number (last q refl))
-authority_stays σ limit x (CallBack place) free called undone last = absurd (called place refl)
-authority_stays σ limit x Hold free called undone last = refl
-authority_stays σ limit x Lift free called undone last = refl
-authority_stays σ limit x Undo free called undone last = absurd (undone refl)
-
--- Where nothing is left to undo, nothing but an extension with a new number leaves something.
-pub nothing_left : (σ : Settings) (limit : Limit) (x : Train) (a : Act) → x.authority.undoable ≡ 0
-    → ((q : Extension) → a ≡ Extend q → q.number ≡ x.authority.number) → (decide σ limit x a).after.authority.undoable ≡ 0
-unfolding reported extended is_repeat called_back
-nothing_left σ limit x (Report r) nothing last = settled_undone x.authority _ _ _ nothing
-nothing_left σ limit x (Extend q) nothing last = rw (eq-eqb q.number x.authority.number (last q refl)) nothing
-nothing_left σ limit x (CallBack place) nothing last = by_test (leb (reach_of x) place) (λ far. rw far) (λ short. rw short)
-nothing_left σ limit x Hold nothing last = nothing
-nothing_left σ limit x Lift nothing last = nothing
-nothing_left σ limit x Undo nothing last = refl
 
 -- ---- hold and lift
 
@@ -347,7 +265,6 @@ penalty_stays σ limit x (Extend q) other = by_test (is_repeat x.authority q) (�
 penalty_stays σ limit x (CallBack place) other = refl
 penalty_stays σ limit x Hold other = refl
 penalty_stays σ limit x Lift other = refl
-penalty_stays σ limit x Undo other = refl
 
 -- ---- take off
 
@@ -387,7 +304,6 @@ act_leaves σ limit x (CallBack place) =
     (λ e. rw e (record { id = refl; start = refl; numbers = inr (refl, refl) }))
 act_leaves σ limit x Hold = record { id = refl; start = refl; numbers = inr (refl, refl) }
 act_leaves σ limit x Lift = record { id = refl; start = refl; numbers = inr (refl, refl) }
-act_leaves σ limit x Undo = record { id = refl; start = refl; numbers = inr (refl, refl) }
 
 -- so the last accepted number never goes back
 pub number_onward : (σ : Settings) (limit : Limit) (x : Train) (a : Act) → first_of (decide σ limit x a).checks ≡ none

@@ -6,8 +6,8 @@ use mathlib.Core.Path.{◌≡◌}
 use borrow.Author.Tests.{eq-eqb, ne_eqb}
 use Rattle.calls.specs.declared.Reading.{Reading}
 use Rattle.calls.specs.declared.Extension.{Extension}
-use Rattle.calls.specs.declared.Refusal.TheVariants.{NotAllowed, BadRequest, OldNumber, OtherLength, NoTrack, BadPlace, Pending, NothingToUndo, ReachPast}
-use Rattle.calls.specs.declared.Values.TheVariants.{Ordered, Extended, Single, Zeros}
+use Rattle.calls.specs.declared.Refusal.TheVariants.{NotAllowed, BadRequest, OldNumber, OtherLength, NoTrack, BadPlace, Pending}
+use Rattle.calls.specs.declared.Values.TheVariants.{Ordered, Extended, Zeros}
 use Rattle.calls.specs.Checks.{first_of}
 use Rattle.train.specs.declared.Settings.{Settings}
 use Rattle.train.specs.declared.Authority.{Authority}
@@ -17,8 +17,8 @@ use Rattle.acts.specs.declared.Verdict.TheVariants.{TurnedDown, Passed}
 use Rattle.train.specs.Record.{is_pending, authorised}
 use Rattle.train.specs.Track.{within_limit}
 use Rattle.train.specs.Report.{reach_of, reported, report_allowed}
-use Rattle.acts.specs.Acts.{request_in_range, is_repeat, is_old, granted, extended, called_back, call_back_allowed, undone, undo_allowed}
-use Rattle.acts.specs.Decide.{reporting, extending, calling_back, undoing, verdict}
+use Rattle.acts.specs.Acts.{request_in_range, is_repeat, is_old, granted, extended, called_back, call_back_allowed}
+use Rattle.acts.specs.Decide.{reporting, extending, calling_back, verdict}
 
 module _ (σ : Settings) (x : Train) where
   -- ---- report
@@ -81,19 +81,3 @@ module _ (x : Train) (place : ℕ) where
   pub call_back_taken : call_back_allowed x place ≡ true → verdict (calling_back x place) ≡ Passed Zeros (called_back x place)
   unfolding first_of
   call_back_taken e = rw e
-
--- ---- undo
-
-module _ (x : Train) where
-  pub undo_none : x.authority.undoable ≡ 0 → verdict (undoing x) ≡ TurnedDown NothingToUndo
-  unfolding first_of
-  undo_none e = rw (eq-eqb x.authority.undoable 0 e)
-
-  module _ (left : x.authority.undoable ≡ 0 → ⊥) where
-    pub undo_refused : undo_allowed x ≡ false → verdict (undoing x) ≡ TurnedDown ReachPast
-    unfolding first_of
-    undo_refused e = rw (ne_eqb x.authority.undoable 0 left, e)
-
-    pub undo_taken : undo_allowed x ≡ true → verdict (undoing x) ≡ Passed (Single (undone x).authority.end) (undone x)
-    unfolding first_of
-    undo_taken e = rw (ne_eqb x.authority.undoable 0 left, e)

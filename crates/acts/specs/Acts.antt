@@ -1,5 +1,5 @@
--- Document 01, "Authorities", and document 02, (vi) and (vii): what each call does to the train that it names.
-use Rattle.std.specs.Prelude.{ℕ, ◌+◌, ◌-◌, Bool, cond, ◌&&◌, ◌||◌, leb, ltb, eqb}
+-- Document 01, "Authorities", and document 02, (vi): what each call does to the train that it names.
+use Rattle.std.specs.Prelude.{ℕ, ◌+◌, Bool, cond, ◌&&◌, ◌||◌, leb, ltb, eqb}
 use Rattle.ranges.specs.Ranges.{between, number_in_range}
 use Rattle.motion.specs.Motion.{stands}
 use Rattle.motion.specs.Orders.{is_brake}
@@ -7,7 +7,7 @@ use Rattle.calls.specs.declared.Extension.{Extension}
 use Rattle.train.specs.declared.Settings.{Settings}
 use Rattle.train.specs.declared.Authority.{Authority}
 use Rattle.train.specs.declared.Train.{Train}
-use Rattle.train.specs.Record.{ending_at, wanting, same, authorised}
+use Rattle.train.specs.Record.{authority_to, ending_at, wanting, same, authorised}
 use Rattle.train.specs.Report.{reach_of, computable}
 
 -- a request: its number, and its length from 1 to the line end
@@ -22,18 +22,16 @@ is_old a q = leb q.number a.start || ltb q.number a.number
 unfoldable pub is_repeat : Authority → Extension → Bool
 is_repeat a q = eqb q.number a.number
 
--- Extend: a new number adds the length, which may be undone
+-- Extend: a new number adds the length
 abbrev pub granted : Authority → Extension → Authority
-granted a q =
-    let e = a.end + q.length in
-    record { end = e; goal = e; start = a.start; number = q.number; length = q.length; undoable = q.length }
+granted a q = authority_to (a.end + q.length) a.start q.number q.length
 
 -- a repeat changes nothing
 unfoldable pub extended : Train → Extension → Train
 extended x q = cond (is_repeat x.authority q) x (authorised x (granted x.authority q))
 
 -- Call back: the end becomes a named place from reach to end, both included. Short of the reach the place is wanted, and the call back is
--- pending. Either takes the place of one that was pending, and leaves nothing to undo. The request number stays.
+-- pending. Either takes the place of one that was pending. The request number stays.
 unfoldable pub called_back : Train → ℕ → Train
 called_back x place = authorised x (cond (leb (reach_of x) place) (ending_at x.authority place) (wanting x.authority place))
 
@@ -41,14 +39,6 @@ called_back x place = authorised x (cond (leb (reach_of x) place) (ending_at x.a
 -- call-back-judged).
 unfoldable pub call_back_allowed : Train → ℕ → Bool
 call_back_allowed x place = computable x && between x.motion.head x.authority.end place
-
--- Undo takes off the length of the last accepted extension, where it is left to undo. Number and length stay used, and nothing is left to undo.
-abbrev pub undone : Train → Train
-undone x = authorised x (ending_at x.authority (x.authority.end - x.authority.undoable))
-
--- The reach does not lie past the shorter end. On a table that calls left this is the second test alone (safety/proofs/Bounds: undo-judged).
-unfoldable pub undo_allowed : Train → Bool
-undo_allowed x = computable x && leb (reach_of x + x.authority.undoable) x.authority.end
 
 -- Hold and lift: the mark of a hold alone, which the next report reads; a penalty brake stays on
 abbrev pub holding : Train → Bool → Train

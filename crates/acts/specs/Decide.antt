@@ -1,14 +1,14 @@
--- Document 01, "Authorities" and "What is turned down", and document 02, (vi) and (vii): what each act of a train on the line comes to.
+-- Document 01, "Authorities" and "What is turned down", and document 02, (vi): what each act of a train on the line comes to.
 use Rattle.std.specs.Prelude.{ℕ, ◌+◌, Bool, true, false, not, ◌&&◌, List, [], ◌∷◌, eqb}
 use Rattle.std.proofs.Math.Option.{Option, none, some}
 use Rattle.calls.specs.declared.Reading.{Reading}
 use Rattle.calls.specs.declared.Extension.{Extension}
 use Rattle.calls.specs.declared.Act.{Act}
-use Rattle.calls.specs.declared.Act.TheVariants.{Report, Extend, CallBack, Hold, Lift, Undo}
+use Rattle.calls.specs.declared.Act.TheVariants.{Report, Extend, CallBack, Hold, Lift}
 use Rattle.calls.specs.declared.Refusal.{Refusal}
-use Rattle.calls.specs.declared.Refusal.TheVariants.{NotAllowed, BadRequest, OldNumber, OtherLength, NoTrack, BadPlace, Pending, NothingToUndo, ReachPast}
+use Rattle.calls.specs.declared.Refusal.TheVariants.{NotAllowed, BadRequest, OldNumber, OtherLength, NoTrack, BadPlace, Pending}
 use Rattle.calls.specs.declared.Values.{Values}
-use Rattle.calls.specs.declared.Values.TheVariants.{Ordered, Extended, Single, Zeros}
+use Rattle.calls.specs.declared.Values.TheVariants.{Ordered, Extended, Zeros}
 use Rattle.calls.specs.Checks.{Check, check, first_of}
 use Rattle.train.specs.declared.Settings.{Settings}
 use Rattle.train.specs.declared.Train.{Train}
@@ -18,7 +18,7 @@ use Rattle.acts.specs.declared.Verdict.TheVariants.{TurnedDown, Passed}
 use Rattle.train.specs.Record.{is_pending}
 use Rattle.train.specs.Track.{within_limit}
 use Rattle.train.specs.Report.{reach_of, reported, report_allowed}
-use Rattle.acts.specs.Acts.{request_in_range, is_repeat, is_old, extended, call_back_allowed, called_back, undone, undo_allowed, holding}
+use Rattle.acts.specs.Acts.{request_in_range, is_repeat, is_old, extended, call_back_allowed, called_back, holding}
 
 -- the checks of an act in the order in which they run; where none applies, what it gives and the record after it
 pub record Ruling : Type 0 where
@@ -51,15 +51,6 @@ extending σ limit x q =
 abbrev pub calling_back : Train → ℕ → Ruling
 calling_back x place = record { checks = check (not (call_back_allowed x place)) BadPlace ∷ []; gives = Zeros; after = called_back x place }
 
--- Undo: 18, 19
-abbrev pub undoing : Train → Ruling
-undoing x =
-    record {
-      checks = check (eqb x.authority.undoable 0) NothingToUndo ∷ check (not (undo_allowed x)) ReachPast ∷ [];
-      gives = Single (undone x).authority.end;
-      after = undone x;
-    }
-
 -- Hold and lift: no check
 abbrev pub marking : Train → Bool → Ruling
 marking x held = record { checks = []; gives = Zeros; after = holding x held }
@@ -71,7 +62,6 @@ decide σ limit x (Extend q) = extending σ limit x q
 decide σ limit x (CallBack place) = calling_back x place
 decide σ limit x Hold = marking x true
 decide σ limit x Lift = marking x false
-decide σ limit x Undo = undoing x
 
 -- ---- words of inner contracts
 

@@ -1,10 +1,10 @@
 // Decides each act of a train on the line: its checks, what it gives and the record after it. Document 01, "Authorities" and "What is turned
-// down"; document 02, (vi) and (vii).
+// down".
 ghost use Rattle.std.specs.Prelude.{◌≡◌, true, ◌+◌, ◌^◌, ◌<◌};
 ghost use Rattle.train.specs.Record.{authorised};
 ghost use Rattle.train.specs.Report.{computable};
-ghost use Rattle.acts.specs.Acts.{request_in_range, is_old, granted, called_back, call_back_allowed, undo_allowed, holding, may_leave};
-ghost use Rattle.acts.specs.Decide.{reporting, extending, calling_back, undoing, decide as decision, verdict};
+ghost use Rattle.acts.specs.Acts.{request_in_range, is_old, granted, called_back, call_back_allowed, holding, may_leave};
+ghost use Rattle.acts.specs.Decide.{reporting, extending, calling_back, decide as decision, verdict};
 
 use acts::Verdict;
 use calls::{Act, Extension, Reading, Refusal, Values};
@@ -32,20 +32,18 @@ fn is_old(a: Authority, q: Extension) -> bool
     q.number < a.number
 }
 
-// A new request is granted: its length is added, and may be undone; its number is the last accepted one.
+// A new request is granted: its length is added, and its number is the last accepted one.
 fn grant(x: Train, q: Extension) -> Train
     requires { x.authority.end + q.length < 2 ^ 64 }
     ensures { result ≡ authorised x (granted x.authority q) }
 {
     let a = x.authority;
-    let mut b = train_code::authority_to(a.end + q.length, a.start, q.number, q.length);
-    b.undoable = q.length;
     let mut y = x;
-    y.authority = b;
+    y.authority = train_code::authority_to(a.end + q.length, a.start, q.number, q.length);
     y
 }
 
-// ---- call back, undo, hold and lift
+// ---- call back, hold and lift
 
 // Refusal 14. Any place from the head on may be wanted.
 fn call_back_allowed(x: Train, place: u64) -> bool
@@ -72,22 +70,6 @@ fn call_back_to(x: Train, place: u64) -> Train
     }
     y.authority = train_code::ending_at(a, place);
     y
-}
-
-// Refusal 19. The reach may come up to the shorter end, and the end is no nearer than the length in any record that calls left.
-fn undo_allowed(x: Train) -> bool
-    ensures { result ≡ undo_allowed x }
-{
-    if !train_code::is_computable(x) {
-        return false;
-    }
-    let a = x.authority;
-    let end = a.end;
-    let length = a.undoable;
-    if end < length {
-        return false;
-    }
-    train_code::reach_of(x) <= end - length
 }
 
 // Hold and lift: the mark of a hold alone, which the next report reads. A penalty brake stays on.
@@ -157,24 +139,6 @@ fn call_back(x: Train, place: u64) -> Verdict
     Verdict::Passed(Values::Zeros, call_back_to(x, place))
 }
 
-// Undo: the length of the last accepted extension is taken off, where it is left to undo. Its number stays used, so that a repeat adds none.
-fn undo(x: Train) -> Verdict
-    ensures { result ≡ verdict (undoing x) }
-{
-    let a = x.authority;
-    let length = a.undoable;
-    if length == 0 {
-        return Verdict::TurnedDown(Refusal::NothingToUndo);
-    }
-    if !undo_allowed(x) {
-        return Verdict::TurnedDown(Refusal::ReachPast);
-    }
-    let end = a.end - length;
-    let mut y = x;
-    y.authority = train_code::ending_at(a, end);
-    Verdict::Passed(Values::Single(end), y)
-}
-
 // An act of the train x with this limit. Hold is the emergency message, lift its withdrawal: both act from the next report on.
 pub fn decide(s: Settings, limit: Limit, x: Train, a: Act) -> Verdict
     ensures { result ≡ verdict (decision s limit x a) }
@@ -185,7 +149,6 @@ pub fn decide(s: Settings, limit: Limit, x: Train, a: Act) -> Verdict
         Act::CallBack(place) => call_back(x, place),
         Act::Hold => Verdict::Passed(Values::Zeros, with_held(x, true)),
         Act::Lift => Verdict::Passed(Values::Zeros, with_held(x, false)),
-        Act::Undo => undo(x),
     }
 }
 

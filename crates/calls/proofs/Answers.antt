@@ -7,20 +7,19 @@ use native.Mathlib.Omega.{arith}
 use lib.Dec.{eqb}
 use borrow.Author.Tests.{ne_eqb}
 use Rattle.calls.specs.declared.Refusal.{Refusal}
-use Rattle.calls.specs.declared.Refusal.TheVariants.{BadLine, OutOfTurn, BadSetting, BadEntry, OnLine, LineFull, BadHead, NoTrain, NotAllowed, BadRequest, OldNumber, OtherLength, NoTrack, BadPlace, NotLeaving, NoRight, Pending, NothingToUndo, ReachPast}
+use Rattle.calls.specs.declared.Refusal.TheVariants.{BadLine, OutOfTurn, BadSetting, BadEntry, OnLine, LineFull, BadHead, NoTrain, NotAllowed, BadRequest, OldNumber, OtherLength, NoTrack, BadPlace, NotLeaving, NoRight, Pending}
 use Rattle.calls.specs.declared.Answer.TheVariants.{Accepted}
 use Rattle.calls.specs.declared.Values.{Values}
-use Rattle.calls.specs.declared.Values.TheVariants.{Entered, Ordered, Extended, Single, Zeros}
+use Rattle.calls.specs.declared.Values.TheVariants.{Entered, Ordered, Extended, Zeros}
 use Rattle.calls.specs.Answers.{refusal_number, numbers_of}
 
 pub accepted_0 : (v : Values) → (numbers_of (Accepted v)).number ≡ 0
 accepted_0 (Entered full growth end) = refl
 accepted_0 (Ordered o r) = refl
 accepted_0 (Extended end repeat) = refl
-accepted_0 (Single n) = refl
 accepted_0 Zeros = refl
 
-pub refusal_range : (r : Refusal) → (1 ≤ refusal_number r) × (refusal_number r ≤ 19)
+pub refusal_range : (r : Refusal) → (1 ≤ refusal_number r) × (refusal_number r ≤ 17)
 refusal_range BadLine = omega arith
 refusal_range OutOfTurn = omega arith
 refusal_range BadSetting = omega arith
@@ -38,8 +37,6 @@ refusal_range BadPlace = omega arith
 refusal_range NotLeaving = omega arith
 refusal_range NoRight = omega arith
 refusal_range Pending = omega arith
-refusal_range NothingToUndo = omega arith
-refusal_range ReachPast = omega arith
 
 -- so none has the number of acceptance
 pub refusal_not_0 : (r : Refusal) → eqb (refusal_number r) 0 ≡ false

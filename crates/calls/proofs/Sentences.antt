@@ -1,4 +1,4 @@
--- Document 01, "The session program", and document 02, (iii) and (vii), said a second time, for every number: what each row of numbers asks, and what
+-- Document 01, "The session program", and document 02, (iii), said a second time, for every number: what each row of numbers asks, and what
 -- each accepted answer prints. Rows, requests and answers are written out. A wrong definition is refused here, whatever the code.
 -- Assumes nothing.
 use Prim.Native.Nat.{ℕ, ◌≤◌, ◌<◌}
@@ -16,10 +16,9 @@ use Rattle.calls.specs.declared.Call.TheVariants.{Enter, Own, TakeOff}
 use Rattle.calls.specs.declared.Ask.{Ask}
 use Rattle.calls.specs.declared.Ask.TheVariants.{Open, OnTable}
 use Rattle.calls.specs.declared.Request.{Request}
-use Rattle.calls.specs.declared.RequestRead.{RequestRead}
 use Rattle.calls.specs.declared.RequestRead.TheVariants.{Read, Unreadable}
 use Rattle.calls.specs.declared.Answer.TheVariants.{Accepted}
-use Rattle.calls.specs.declared.Values.TheVariants.{Entered, Ordered, Extended, Single, Zeros}
+use Rattle.calls.specs.declared.Values.TheVariants.{Entered, Ordered, Extended, Zeros}
 use Rattle.calls.specs.Answers.{numbers, numbers_of}
 use Rattle.calls.specs.Requests.{all_zero, request, read_as, request_of}
 
@@ -38,10 +37,10 @@ abbrev pub AllZero : List ℕ → Type 0
 AllZero [] = Unit {0}
 AllZero (n ∷ ns) = (n ≡ 0) × AllZero ns
 
--- "Unused numbers are 0": what is read of a row is r where they are, and otherwise it is unreadable. The caller is none of them.
-pub record ReadWhere (unused : List ℕ) (read : RequestRead) (r : Request) : Type 0 where
-  pub zeros : AllZero unused → read ≡ Read r
-  pub others : (AllZero unused → ⊥) → read ≡ Unreadable
+-- "Unused numbers are 0": a row is read as r where they are, and otherwise it is unreadable. The caller is none of them.
+pub record ReadWhere (unused row : List ℕ) (r : Request) : Type 0 where
+  pub zeros : AllZero unused → request_of row ≡ Read r
+  pub others : (AllZero unused → ⊥) → request_of row ≡ Unreadable
 
 all_zero_lem : (ns : List ℕ) → AllZero ns → all_zero ns ≡ true
 unfolding all_zero
@@ -53,8 +52,8 @@ unfolding all_zero
 zero_all [] e = tt
 zero_all (n ∷ ns) e = let two = both (eqb n 0) (all_zero ns) e in (eqb-true n 0 two.0, zero_all ns two.1)
 
-pub read_where : (unused : List ℕ) (read : RequestRead) (r : Request) → read ≡ cond (all_zero unused) (Read r) Unreadable → ReadWhere unused read r
-read_where unused read r e =
+read_where : (unused row : List ℕ) (r : Request) → request_of row ≡ cond (all_zero unused) (Read r) Unreadable → ReadWhere unused row r
+read_where unused row r e =
     record {
       zeros = λ z. e ∙ rw (all_zero_lem unused z);
       others = λ out. by_test (all_zero unused) (λ t. absurd (out (zero_all unused t))) (λ f. e ∙ rw f);
@@ -63,44 +62,44 @@ read_where unused read r e =
 -- a code, five numbers and the caller n
 module _ (a b c d e n : ℕ) where
   -- "1 open (line end, safety distance, V, A)"
-  pub open_row : ReadWhere (e ∷ []) (request_of (1 ∷ a ∷ b ∷ c ∷ d ∷ e ∷ n ∷ []))
+  pub open_row : ReadWhere (e ∷ []) (1 ∷ a ∷ b ∷ c ∷ d ∷ e ∷ n ∷ [])
       (record { caller = n; ask = Open (record { end = a; safety = b; ceiling = c; traction = d }) })
   unfolding request_of read_as
   open_row = read_where _ _ _ refl
 
   -- "2 enter (id, head, length, load, starting number)"
-  pub enter_row : ReadWhere [] (request_of (2 ∷ a ∷ b ∷ c ∷ d ∷ e ∷ n ∷ []))
+  pub enter_row : ReadWhere [] (2 ∷ a ∷ b ∷ c ∷ d ∷ e ∷ n ∷ [])
       (record { caller = n; ask = OnTable (Enter (record { id = a; head = b; length = c; load = d; start = e })) })
   unfolding request_of read_as
   enter_row = read_where _ _ _ refl
 
   -- "3 report (id, head, speed)"
-  pub report_row : ReadWhere (d ∷ e ∷ []) (request_of (3 ∷ a ∷ b ∷ c ∷ d ∷ e ∷ n ∷ []))
+  pub report_row : ReadWhere (d ∷ e ∷ []) (3 ∷ a ∷ b ∷ c ∷ d ∷ e ∷ n ∷ [])
       (record { caller = n; ask = OnTable (Own a (Report (record { head = b; speed = c }))) })
   unfolding request_of read_as
   report_row = read_where _ _ _ refl
 
   -- "4 extend (id, number, length)"
-  pub extend_row : ReadWhere (d ∷ e ∷ []) (request_of (4 ∷ a ∷ b ∷ c ∷ d ∷ e ∷ n ∷ []))
+  pub extend_row : ReadWhere (d ∷ e ∷ []) (4 ∷ a ∷ b ∷ c ∷ d ∷ e ∷ n ∷ [])
       (record { caller = n; ask = OnTable (Own a (Extend (record { number = b; length = c }))) })
   unfolding request_of read_as
   extend_row = read_where _ _ _ refl
 
   -- "5 call back (id, place)"
-  pub call_back_row : ReadWhere (c ∷ d ∷ e ∷ []) (request_of (5 ∷ a ∷ b ∷ c ∷ d ∷ e ∷ n ∷ [])) (record { caller = n; ask = OnTable (Own a (CallBack b)) })
+  pub call_back_row : ReadWhere (c ∷ d ∷ e ∷ []) (5 ∷ a ∷ b ∷ c ∷ d ∷ e ∷ n ∷ []) (record { caller = n; ask = OnTable (Own a (CallBack b)) })
   unfolding request_of read_as
   call_back_row = read_where _ _ _ refl
 
   -- "6 hold, 7 lift, 8 take off (id)"
-  pub hold_row : ReadWhere (b ∷ c ∷ d ∷ e ∷ []) (request_of (6 ∷ a ∷ b ∷ c ∷ d ∷ e ∷ n ∷ [])) (record { caller = n; ask = OnTable (Own a Hold) })
+  pub hold_row : ReadWhere (b ∷ c ∷ d ∷ e ∷ []) (6 ∷ a ∷ b ∷ c ∷ d ∷ e ∷ n ∷ []) (record { caller = n; ask = OnTable (Own a Hold) })
   unfolding request_of read_as
   hold_row = read_where _ _ _ refl
 
-  pub lift_row : ReadWhere (b ∷ c ∷ d ∷ e ∷ []) (request_of (7 ∷ a ∷ b ∷ c ∷ d ∷ e ∷ n ∷ [])) (record { caller = n; ask = OnTable (Own a Lift) })
+  pub lift_row : ReadWhere (b ∷ c ∷ d ∷ e ∷ []) (7 ∷ a ∷ b ∷ c ∷ d ∷ e ∷ n ∷ []) (record { caller = n; ask = OnTable (Own a Lift) })
   unfolding request_of read_as
   lift_row = read_where _ _ _ refl
 
-  pub take_off_row : ReadWhere (b ∷ c ∷ d ∷ e ∷ []) (request_of (8 ∷ a ∷ b ∷ c ∷ d ∷ e ∷ n ∷ [])) (record { caller = n; ask = OnTable (TakeOff a) })
+  pub take_off_row : ReadWhere (b ∷ c ∷ d ∷ e ∷ []) (8 ∷ a ∷ b ∷ c ∷ d ∷ e ∷ n ∷ []) (record { caller = n; ask = OnTable (TakeOff a) })
   unfolding request_of read_as
   take_off_row = read_where _ _ _ refl
 
@@ -142,10 +141,6 @@ extended_answer end = refl
 
 pub repeated_answer : (end : ℕ) → numbers_of (Accepted (Extended end true)) ≡ record { number = 0; first = end; second = 1; third = 0 }
 repeated_answer end = refl
-
--- document 02, (vii): "The answer is the shorter end"
-pub single_answer : (n : ℕ) → numbers_of (Accepted (Single n)) ≡ record { number = 0; first = n; second = 0; third = 0 }
-single_answer n = refl
 
 -- "the rest zeros"
 pub zeros_answer : numbers_of (Accepted Zeros) ≡ record { number = 0; first = 0; second = 0; third = 0 }

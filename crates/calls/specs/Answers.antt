@@ -1,11 +1,11 @@
--- Document 01, "What is turned down" and "The session program", and document 02: the number and the three values of each answer.
+-- Document 01, "What is turned down" and "The session program": the number and the three values of each answer.
 use Rattle.std.specs.Prelude.{ℕ, cond}
 use Rattle.motion.specs.Orders.{order_number, order_cap}
 use Rattle.calls.specs.declared.Refusal.{Refusal}
-use Rattle.calls.specs.declared.Refusal.TheVariants.{BadLine, OutOfTurn, BadSetting, BadEntry, OnLine, LineFull, BadHead, NoTrain, NotAllowed, BadRequest, OldNumber, OtherLength, NoTrack, BadPlace, NotLeaving, NoRight, Pending, NothingToUndo, ReachPast}
+use Rattle.calls.specs.declared.Refusal.TheVariants.{BadLine, OutOfTurn, BadSetting, BadEntry, OnLine, LineFull, BadHead, NoTrain, NotAllowed, BadRequest, OldNumber, OtherLength, NoTrack, BadPlace, NotLeaving, NoRight, Pending}
 use Rattle.calls.specs.declared.Answer.{Answer}
 use Rattle.calls.specs.declared.Answer.TheVariants.{Accepted, Refused}
-use Rattle.calls.specs.declared.Values.TheVariants.{Entered, Ordered, Extended, Single, Zeros}
+use Rattle.calls.specs.declared.Values.TheVariants.{Entered, Ordered, Extended, Zeros}
 use Rattle.calls.specs.declared.Numbers.{Numbers}
 
 abbrev pub refusal_number : Refusal → ℕ
@@ -43,10 +43,6 @@ refusal_number NotLeaving = 15
 refusal_number NoRight = 16
 -- the train: a new extension while a call back is pending
 refusal_number Pending = 17
--- no accepted extension, already undone, or a call back taken since
-refusal_number NothingToUndo = 18
--- the reach lies past the shorter end
-refusal_number ReachPast = 19
 
 abbrev pub numbers : ℕ → ℕ → ℕ → ℕ → Numbers
 numbers n a b c = record { number = n; first = a; second = b; third = c }
@@ -59,8 +55,6 @@ numbers_of (Accepted (Entered full growth end)) = numbers 0 full growth end
 numbers_of (Accepted (Ordered o r)) = numbers 0 (order_number o) (order_cap o) r
 -- extend: end, 1 for a repeat
 numbers_of (Accepted (Extended end repeat)) = numbers 0 end (cond repeat 1 0) 0
--- undo: the shorter end
-numbers_of (Accepted (Single n)) = numbers 0 n 0 0
 -- the rest: zeros
 numbers_of (Accepted Zeros) = numbers 0 0 0 0
 numbers_of (Refused r) = numbers (refusal_number r) 0 0 0

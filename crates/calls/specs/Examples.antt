@@ -2,7 +2,7 @@
 -- (proofs/Examples: answered).
 use Rattle.std.specs.Prelude.{ℕ, List, [], ◌∷◌}
 use Rattle.calls.specs.declared.Refusal.{Refusal}
-use Rattle.calls.specs.declared.Refusal.TheVariants.{BadLine, OutOfTurn, BadSetting, BadEntry, OnLine, LineFull, BadHead, NoTrain, NotAllowed, BadRequest, OldNumber, OtherLength, NoTrack, BadPlace, NotLeaving, NoRight, Pending, NothingToUndo, ReachPast}
+use Rattle.calls.specs.declared.Refusal.TheVariants.{BadLine, OutOfTurn, BadSetting, BadEntry, OnLine, LineFull, BadHead, NoTrain, NotAllowed, BadRequest, OldNumber, OtherLength, NoTrack, BadPlace, NotLeaving, NoRight, Pending}
 use Rattle.calls.specs.declared.Answer.{Answer}
 use Rattle.calls.specs.declared.Answer.TheVariants.{Refused}
 use Rattle.calls.specs.declared.Numbers.{Numbers}
@@ -45,7 +45,4 @@ answers =
     ∷ refusal NoRight 16
     -- a new extension while a call back is pending
     ∷ refusal Pending 17
-    -- no accepted extension, already undone, or a call back taken since; the reach lies past the shorter end
-    ∷ refusal NothingToUndo 18
-    ∷ refusal ReachPast 19
     ∷ []

@@ -37,7 +37,7 @@ pub struct Extension {
     pub length: u64,
 }
 
-// A call that names a train on the line and leaves it there. Call back names a place. Undo hands the last extension back.
+// A call that names a train on the line and leaves it there. Call back names a place.
 #[derive(Drop)]
 pub enum Act {
     Report(Reading),
@@ -45,7 +45,6 @@ pub enum Act {
     CallBack(u64),
     Hold,
     Lift,
-    Undo,
 }
 
 // A call on a table: enter, an act of the train with an id, take off (id).
@@ -102,18 +101,15 @@ pub enum Refusal {
     NotLeaving,
     NoRight,
     Pending,
-    NothingToUndo,
-    ReachPast,
 }
 
 // What an accepted call gives. Entered: B, j and end. Ordered: the order and its reach. Extended: the end, and whether the request
-// is a repeat. Single: one number, as the shorter end of an undoing. The other calls: zeros.
+// is a repeat. The other calls: zeros.
 #[derive(Drop)]
 pub enum Values {
     Entered(u64, u64, u64),
     Ordered(Order, u64),
     Extended(u64, bool),
-    Single(u64),
     Zeros,
 }
 

@@ -34,8 +34,6 @@ fn refusal_number(r: Refusal) -> u64
         Refusal::NotLeaving => 15,
         Refusal::NoRight => 16,
         Refusal::Pending => 17,
-        Refusal::NothingToUndo => 18,
-        Refusal::ReachPast => 19,
     }
 }
 
@@ -60,12 +58,6 @@ fn numbers_given(v: Values) -> Numbers
             number: 0,
             first: end,
             second: repeat as u64,
-            third: 0,
-        },
-        Values::Single(n) => Numbers {
-            number: 0,
-            first: n,
-            second: 0,
             third: 0,
         },
         Values::Zeros => Numbers {
@@ -109,7 +101,7 @@ fn zero_from(row: [u64; ROW], n: usize) -> bool
 }
 
 // A request that uses the numbers before place n: the unused ones are 0.
-pub fn read_as(row: [u64; ROW], n: usize, a: Ask) -> RequestRead
+fn read_as(row: [u64; ROW], n: usize, a: Ask) -> RequestRead
     ensures { result ≡ read_as n row a }
 {
     if zero_from(row, n) {

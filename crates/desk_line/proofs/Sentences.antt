@@ -1,24 +1,20 @@
 -- The desk beside the session, line by line: on a line that the session reads it answers as the session does, and its state is the session's. What
 -- previews leave and show is said by code and in the columns of the output.
 -- Assumes nothing.
-use Prim.Native.Nat.{ℕ, ◌+◌, ◌-◌, ◌≤◌, ◌<◌}
+use Prim.Native.Nat.{ℕ, ◌+◌, ◌-◌, ◌≤◌}
 use mathlib.Core.Bool.{Bool, true, false, cond}
 use mathlib.Core.Option.{Option, none, some}
 use mathlib.Core.List.{List, [], ◌∷◌, ◌++◌, append_assoc, append-nil}
-use mathlib.Core.Logic.{by_cases}
 use mathlib.Core.Path.{◌≡◌, refl, ap, ◌∙◌}
-use native.Mathlib.Decide.{dec_le}
 use native.Mathlib.Omega.{arith}
 use lib.Dec.{leb}
 use lib.ListN.{take, set}
 use lib.Seq.{take_at}
-use borrow.Author.Tests.{ne_eqb, le-leb, lt-leb}
+use borrow.Author.Tests.{ne_eqb, le-leb, leb-true}
 use Rattle.logic.proofs.Tests.{by_test}
 use Rattle.motion.specs.Orders.{order_number, order_cap}
 use Rattle.calls.specs.declared.Opening.{Opening}
-use Rattle.calls.specs.declared.Act.TheVariants.{Undo}
 use Rattle.calls.specs.declared.Call.{Call}
-use Rattle.calls.specs.declared.Call.TheVariants.{Own}
 use Rattle.calls.specs.declared.Ask.TheVariants.{Open, OnTable}
 use Rattle.calls.specs.declared.Request.{Request}
 use Rattle.calls.specs.declared.RequestRead.{RequestRead}
@@ -27,8 +23,7 @@ use Rattle.calls.specs.declared.Refusal.{Refusal}
 use Rattle.calls.specs.declared.Refusal.TheVariants.{BadLine, OutOfTurn}
 use Rattle.calls.specs.declared.Answer.TheVariants.{Refused}
 use Rattle.calls.specs.Answers.{numbers_of}
-use Rattle.calls.specs.Requests.{at, request, read_as, request_of}
-use Rattle.calls.proofs.Sentences.{ReadWhere, read_where}
+use Rattle.calls.specs.Requests.{at, request, request_of}
 use Rattle.table.specs.declared.Table.{Table}
 use Rattle.table.proofs.Sentences.{zero_record}
 use Rattle.line.specs.declared.Shown.{Shown}
@@ -41,33 +36,25 @@ use Rattle.stream.specs.Session.{session, line_decision, replied, answered}
 use Rattle.stream.specs.Input.{after}
 use Rattle.desk_line.specs.declared.DeskReply.{DeskReply}
 use Rattle.desk_line.specs.declared.DeskRead.TheVariants.{Made, Tried, Nothing}
-use Rattle.desk_line.specs.Desk.{desk_call, as_tried, desk_ask, desk_ask_by, desk_read, shown_at, left_at, desk_answered, desk_after}
+use Rattle.desk_line.specs.Desk.{as_tried, desk_ask, desk_ask_by, desk_read, shown_at, left_at, desk_answered, desk_after}
 use Rattle.desk_line.specs.Columns.{desk_line}
 
 -- ---- what a line asks
 
--- no call of the session has a code from 9 on
-above_8 : (row : List ℕ) → 9 ≤ at row 0 → request_of row ≡ Unreadable
+-- no call of the session has a code from 50 on
+above_50 : (row : List ℕ) → 50 ≤ at row 0 → request_of row ≡ Unreadable
 unfolding request_of
-above_8 row h =
+above_50 row h =
     let other : (c : ℕ) → c ≤ 8 → at row 0 ≡ c → ⊥ = λ c low e. omega arith in
     rw (ne_eqb (at row 0) 1 (other 1 (omega arith)), ne_eqb (at row 0) 2 (other 2 (omega arith)), ne_eqb (at row 0) 3 (other 3 (omega arith)), ne_eqb (at row 0) 4 (other 4 (omega arith)), ne_eqb (at row 0) 5 (other 5 (omega arith)), ne_eqb (at row 0) 6 (other 6 (omega arith)), ne_eqb (at row 0) 7 (other 7 (omega arith)), ne_eqb (at row 0) 8 (other 8 (omega arith)))
-
--- any other row than one with code 9 is read as the session reads it
-pub session_call : (row : List ℕ) → (at row 0 ≡ 9 → ⊥) → desk_call row ≡ request_of row
-unfolding desk_call
-session_call row other = rw (ne_eqb (at row 0) 9 other)
 
 -- a row that the session reads is read as the same request, which is made
 row_made : (row : List ℕ) (r : Request) → request_of row ≡ Read r → desk_ask row ≡ Made r
 unfolding desk_ask
-row_made row r e = let code = low in rw (lt-leb 50 (at row 0) (omega arith), session_call row (λ undo. omega arith), e)
-  where
-    low : at row 0 < 9
-    low =
-        by_cases (dec_le 9 (at row 0))
-        (λ high. let z : ◌≡◌ {A = ℕ} 0 1 = cc (above_8 row high) in absurd (omega arith))
-        (λ low. omega arith)
+row_made row r e =
+    by_test (leb 50 (at row 0))
+    (λ high. let z : ◌≡◌ {A = ℕ} 0 1 = cc (above_50 row (leb-true 50 (at row 0) high)) in absurd (omega arith))
+    (λ low. rw (low, e))
 
 pub session_read : (l : List ℕ) (r : Request) → line_read l ≡ Read r → desk_read l ≡ Made r
 unfolding line_read desk_read
@@ -77,18 +64,8 @@ session_read l r = go (row_in l)
     go none e = let z : ◌≡◌ {A = ℕ} 0 1 = cc in absurd (omega arith)
     go (some row) e = row_made row r e
 
--- 9 undo (id), by the caller n
-pub undo_call : (a b c d e n : ℕ)
-    → ReadWhere (b ∷ c ∷ d ∷ e ∷ []) (desk_call (9 ∷ a ∷ b ∷ c ∷ d ∷ e ∷ n ∷ [])) (record { caller = n; ask = OnTable (Own a Undo) })
-unfolding desk_call read_as
-undo_call a b c d e n = read_where _ _ _ refl
-
--- a code below 50 is that of a call, which is made, and code 50 + c previews call c
-pub call_read : (l row : List ℕ) (r : Request) → row_in l ≡ some row → at row 0 < 50 → desk_call row ≡ Read r → desk_read l ≡ Made r
-unfolding desk_read desk_ask
-call_read l row r has low reads = ap desk_ask_by has ∙ rw (lt-leb 50 (at row 0) low, reads)
-
-pub preview_read : (l row : List ℕ) (c : ℕ) (r : Request) → row_in l ≡ some row → at row 0 ≡ 50 + c → desk_call (set row 0 c) ≡ Read r → desk_read l ≡ Tried r
+-- code 50 + c previews call c
+pub preview_read : (l row : List ℕ) (c : ℕ) (r : Request) → row_in l ≡ some row → at row 0 ≡ 50 + c → request_of (set row 0 c) ≡ Read r → desk_read l ≡ Tried r
 unfolding desk_read desk_ask
 preview_read l row c r has code reads =
     let above : at row 0 - 50 ≡ c = omega arith in
@@ -117,23 +94,17 @@ as_in_the_session s l r reads =
     let answer : numbers_of (desk_answered s l).shown.answer ≡ (answered s l).answer = rw (same, reads) in
     record { answer = answer; columns = first_columns (desk_answered s l).shown ∙ ap answer_text answer; state = rw (same, reads) }
 
--- Of a line that is no undoing and that the session does not read it makes nothing, as the session does. So the calls of a line that is kept, with
--- no undoing among them, lead the desk to the session's state.
-abbrev pub NoUndo : List ℕ → Type 0
-NoUndo l = (row : List ℕ) → row_in l ≡ some row → at row 0 ≡ 9 → ⊥
-
-not_made : (row : List ℕ) (s : Session) → (at row 0 ≡ 9 → ⊥) → request_of row ≡ Unreadable → left_at s (desk_ask row) ≡ s
+-- Of any other line it makes nothing, as the session does: the desk has no call that the session lacks. So the calls of a line that is kept lead
+-- the desk to the session's state.
+not_made : (row : List ℕ) (s : Session) → request_of row ≡ Unreadable → left_at s (desk_ask row) ≡ s
 unfolding desk_ask left_at
-not_made row s other e =
-    by_test (leb 50 (at row 0))
-    (λ high. rw high (tried (desk_call (set row 0 (at row 0 - 50)))))
-    (λ low. rw (low, session_call row other, e))
+not_made row s e = by_test (leb 50 (at row 0)) (λ high. rw high (tried (request_of (set row 0 (at row 0 - 50))))) (λ low. rw (low, e))
   where
     tried : (q : RequestRead) → left_at s (as_tried q) ≡ s
     tried (Read r) = refl
     tried Unreadable = refl
 
-pub same_state : (s : Session) (l : List ℕ) → NoUndo l → (desk_answered s l).session ≡ (answered s l).session
+pub same_state : (s : Session) (l : List ℕ) → (desk_answered s l).session ≡ (answered s l).session
 unfolding line_read line_decision desk_read left_at
 same_state s l = go (row_in l)
   where
@@ -144,22 +115,18 @@ same_state s l = go (row_in l)
     stays : s ≡ (replied s (line_decision s Unreadable)).session
     stays = refuses s.opened s.table
 
-    row_asks : (row : List ℕ) → (at row 0 ≡ 9 → ⊥) → (q : RequestRead) → request_of row ≡ q → left_at s (desk_ask row) ≡ (replied s (line_decision s q)).session
-    row_asks row other (Read r) e = ap (left_at s) (row_made row r e)
-    row_asks row other Unreadable e = not_made row s other e ∙ stays
+    row_asks : (row : List ℕ) (q : RequestRead) → request_of row ≡ q → left_at s (desk_ask row) ≡ (replied s (line_decision s q)).session
+    row_asks row (Read r) e = ap (left_at s) (row_made row r e)
+    row_asks row Unreadable e = not_made row s e ∙ stays
 
-    go : (o : Option (List ℕ)) → ((row : List ℕ) → o ≡ some row → at row 0 ≡ 9 → ⊥) → left_at s (desk_ask_by o) ≡ (replied s (line_decision s (request_by o))).session
-    go none other = stays
-    go (some row) other = row_asks row (other row refl) (request_of row) refl
+    go : (o : Option (List ℕ)) → left_at s (desk_ask_by o) ≡ (replied s (line_decision s (request_by o))).session
+    go none = stays
+    go (some row) = row_asks row (request_of row) refl
 
-abbrev pub NoneUndoes : List (List ℕ) → Type 0
-NoneUndoes [] = Unit {0}
-NoneUndoes (l ∷ ls) = NoUndo l × NoneUndoes ls
-
-pub same_states : (ls : List (List ℕ)) (s : Session) → NoneUndoes ls → desk_after s ls ≡ after s ls
+pub same_states : (ls : List (List ℕ)) (s : Session) → desk_after s ls ≡ after s ls
 unfolding desk_after after
-same_states [] s others = refl
-same_states (l ∷ ls) s (other, others) = same_states ls (desk_answered s l).session others ∙ ap (λ (z : Session). after z ls) (same_state s l other)
+same_states [] s = refl
+same_states (l ∷ ls) s = same_states ls (desk_answered s l).session ∙ ap (λ (z : Session). after z ls) (same_state s l)
 
 -- ---- what is shown, and what is left
 
@@ -208,6 +175,6 @@ pub record_in_order : (w : Shown) → let x = w.train in desk_line w ≡
     ++ (text 14 (order_number x.order) ++ (text 14 (order_cap x.order)
     ++ (text 14 x.authority.end ++ (text 14 x.authority.start ++ (text 14 x.authority.number ++ (text 14 x.authority.length
     ++ (text 14 (cond x.marks.held 1 0) ++ (text 14 (cond x.marks.penalty 1 0)
-    ++ (text 14 x.authority.goal ++ text 14 x.authority.undoable))))))))))))))))) ++ (10 ∷ [])
+    ++ text 14 x.authority.goal)))))))))))))))) ++ (10 ∷ [])
 unfolding desk_line text_of
 record_in_order w = rw append-nil refl

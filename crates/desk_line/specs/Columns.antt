@@ -14,7 +14,7 @@ abbrev pub mark_number : Bool → ℕ
 mark_number b = cond b 1 0
 
 -- id, length, B, j, head, speed, level, 1 drive or 2 brake, cap (0 with brake), end, starting number, last number, its length, held, penalty,
--- the place that a pending call back wants, or the end where none is pending, and what is left to undo
+-- and the place that a pending call back wants, or the end where none is pending
 abbrev pub record_numbers : Train → List ℕ
 record_numbers x =
     x.id
@@ -33,18 +33,11 @@ record_numbers x =
     ∷ mark_number x.marks.held
     ∷ mark_number x.marks.penalty
     ∷ x.authority.goal
-    ∷ x.authority.undoable
     ∷ []
-
-abbrev pub record_count : ℕ
-record_count = 17
 
 -- each in 14 columns
 abbrev pub record_columns : List ℕ
-record_columns = replicate record_count 14
-
-abbrev pub record_width : ℕ
-record_width = total record_columns
+record_columns = replicate 16 14
 
 -- an output line, with its line feed
 unfoldable pub desk_line : Shown → List ℕ
@@ -57,9 +50,9 @@ desk_answers s (l ∷ ls) = desk_line (desk_answered s l).shown ++ desk_answers 
 
 -- ---- in a buffer
 
--- a line with its line feed
+-- so a line has 269 bytes
 abbrev pub desk_width : ℕ
-desk_width = answer_width + record_width + 1
+desk_width = answer_width + total record_columns + 1
 
 -- room in the buffer out for it
 abbrev pub desk_room : List ℕ → Bool

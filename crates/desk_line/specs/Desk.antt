@@ -1,13 +1,10 @@
 -- A line at the desk: what it asks, what is shown of it, and the state after it. Its columns are those of a line of the session.
-use Rattle.std.specs.Prelude.{ℕ, ◌-◌, not, cond, ◌&&◌, List, [], ◌∷◌, leb, eqb, set}
+use Rattle.std.specs.Prelude.{ℕ, ◌-◌, not, cond, ◌&&◌, List, [], ◌∷◌, leb, set}
 use Rattle.std.proofs.Math.Option.{Option, none, some}
-use Rattle.calls.specs.declared.Act.TheVariants.{Undo}
-use Rattle.calls.specs.declared.Call.TheVariants.{Own}
-use Rattle.calls.specs.declared.Ask.TheVariants.{OnTable}
 use Rattle.calls.specs.declared.RequestRead.{RequestRead}
 use Rattle.calls.specs.declared.RequestRead.TheVariants.{Read, Unreadable}
 use Rattle.calls.specs.declared.Refusal.TheVariants.{BadLine, OutOfTurn}
-use Rattle.calls.specs.Requests.{at, read_as, request_of}
+use Rattle.calls.specs.Requests.{at, request_of}
 use Rattle.line.specs.declared.Shown.{Shown}
 use Rattle.line.specs.Decide.{refused, decided}
 use Rattle.line.specs.Preview.{shown, needs_opening, previewed}
@@ -20,9 +17,9 @@ use Rattle.desk_line.specs.declared.DeskReply.{DeskReply}
 
 -- ---- what a line asks
 
--- the calls of the desk: 9 undo (id); codes 1 to 8 are the session's
-unfoldable pub desk_call : List ℕ → RequestRead
-desk_call row = cond (eqb (at row 0) 9) (read_as 2 row (OnTable (Own (at row 1) Undo))) (request_of row)
+-- the calls of the desk: codes 1 to 8 are the session's
+abbrev pub desk_call : List ℕ → RequestRead
+desk_call row = request_of row
 
 abbrev pub as_made : RequestRead → DeskRead
 as_made (Read r) = Made r

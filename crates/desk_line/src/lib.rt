@@ -1,4 +1,4 @@
-// No code: a line at the desk. The desk is a program beside the session, for people and for tests: it has the session's calls, undo, previews of all,
+// No code: a line at the desk. The desk is a program beside the session, for people and for tests: it has the session's calls, previews of them,
 // and shows the record of the train that a line names. No paper asks for it. The functions are in `desk_line_code`.
 use calls::Request;
 use line::Shown;
@@ -20,4 +20,4 @@ pub struct DeskReply {
 }
 
 // Numbers in a record, as it is shown.
-pub const RECORD: usize = 17;
+pub const RECORD: usize = 16;

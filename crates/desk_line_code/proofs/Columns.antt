@@ -12,10 +12,10 @@ use Rattle.calls.specs.declared.Numbers.{Numbers}
 use Rattle.calls.specs.Answers.{numbers_of}
 use Rattle.train.specs.declared.Train.{Train}
 use Rattle.line.specs.declared.Shown.{Shown}
-use Rattle.wire.specs.Format.{answer_width, text, text_of, answer_text, rendered}
+use Rattle.wire.specs.Format.{text, text_of, answer_text, rendered}
 use Rattle.wire.proofs.RoundTrip.{text_long, answer_long}
 use Rattle.stream.specs.Input.{over}
-use Rattle.desk_line.specs.Columns.{record_numbers, record_columns, record_width, desk_line, desk_width, desk_written}
+use Rattle.desk_line.specs.Columns.{record_numbers, record_columns, desk_line, desk_width, desk_written}
 
 -- the text t after s
 paste_next : (d s t : List ℕ) (at n m : ℕ) → length s ≡ n → length t ≡ m → at + n + m ≤ length d
@@ -55,7 +55,7 @@ put_next d ns at i more room =
     ∙ ap (paste d at (first_text (i + 1) ns)) wider
 
 -- a record takes its columns
-record_long : (x : Train) → length (text_of record_columns (record_numbers x)) ≡ record_width
+record_long : (x : Train) → length (text_of record_columns (record_numbers x)) ≡ 224
 unfolding text_of
 record_long x = simp (length-append, text_long)
 
@@ -72,7 +72,7 @@ line_ended out s n long room =
 
 -- the answer's columns, the record's and a line feed are an output line
 pub line_put : (out l m ns : List ℕ) (w : Shown) (n : Numbers) → desk_width ≤ length out → n ≡ numbers_of w.answer → ns ≡ record_numbers w.train
-    → l ≡ rendered n out 0 → m ≡ paste l 44 (text_of record_columns ns) record_width → set m (answer_width + record_width) 10 ≡ over (desk_line w) out
+    → l ≡ rendered n out 0 → m ≡ paste l 44 (text_of record_columns ns) 224 → set m 268 10 ≡ over (desk_line w) out
 unfolding desk_line
 line_put out l m ns w n room answers shows first rest =
     let a = answer_text n in
@@ -80,14 +80,14 @@ line_put out l m ns w n room answers shows first rest =
     let fits = le-leb 44 (length out) (omega arith) in
     let left : l ≡ paste out 0 a 44 = first ∙ rw fits in
     let size : length a ≡ 44 = answer_long n in
-    let more : length x ≡ record_width = ap (λ (k : List ℕ). length (text_of record_columns k)) shows ∙ record_long w.train in
-    let all : length (a ++ x) ≡ answer_width + record_width = omega (arith, length-append a x) in
-    ap (λ (k : List ℕ). set k (answer_width + record_width) 10) (rest ∙ ap (λ (k : List ℕ). paste k 44 x record_width) left ∙ paste_next out a x 0 44 record_width size more (omega arith))
-    ∙ line_ended out (a ++ x) (answer_width + record_width) all (omega arith)
+    let more : length x ≡ 224 = ap (λ (k : List ℕ). length (text_of record_columns k)) shows ∙ record_long w.train in
+    let all : length (a ++ x) ≡ 268 = omega (arith, length-append a x) in
+    ap (λ (k : List ℕ). set k 268 10) (rest ∙ ap (λ (k : List ℕ). paste k 44 x 224) left ∙ paste_next out a x 0 44 224 size more (omega arith))
+    ∙ line_ended out (a ++ x) 268 all (omega arith)
     ∙ ap (λ (k : Numbers). over ((answer_text k ++ x) ++ (10 ∷ [])) out) answers
     ∙ ap (λ (k : List ℕ). over ((answer_text (numbers_of w.answer) ++ text_of record_columns k) ++ (10 ∷ [])) out) shows
 
--- an output line has that many bytes
+-- an output line has 269 bytes
 pub line_long : (w : Shown) → length (desk_line w) ≡ desk_width
 unfolding desk_line
 line_long w =

@@ -1,12 +1,12 @@
 // What is done for a line at the desk: it is read, made or tried, and what is shown of it is written. The table goes in and comes back by value:
 // nothing here has to be quick.
-ghost use Rattle.std.specs.Prelude.{◌≡◌, ◌+◌, ◌≤◌, length};
+ghost use Rattle.std.specs.Prelude.{◌≡◌, ◌≤◌, length};
 ghost use Rattle.std.proofs.Math.Seq.{paste};
-ghost use Rattle.wire.specs.Format.{answer_width, text_of};
-ghost use Rattle.desk_line.specs.Desk.{desk_call, as_made, as_tried, desk_ask, desk_read, shown_at, left_at, desk_answered};
-ghost use Rattle.desk_line.specs.Columns.{mark_number, record_numbers, record_columns, record_width, desk_room, desk_written};
+ghost use Rattle.wire.specs.Format.{text_of};
+ghost use Rattle.desk_line.specs.Desk.{as_made, as_tried, desk_ask, desk_read, shown_at, left_at, desk_answered};
+ghost use Rattle.desk_line.specs.Columns.{mark_number, record_numbers, record_columns, desk_room, desk_written};
 
-use calls::{Act, Ask, Call, ROW, Refusal, Request, RequestRead};
+use calls::{ROW, Refusal, Request, RequestRead};
 use desk_line::{DeskRead, DeskReply, RECORD};
 use line::Shown;
 use stream::Session;
@@ -16,21 +16,6 @@ use train::Train;
 
 // Code 50 + c previews call c.
 const PREVIEW: u64 = 50;
-
-// Undo, which the session does not have.
-const UNDO: u64 = 9;
-
-// The call that a row asks for.
-fn call_of(row: [u64; ROW]) -> RequestRead
-    ensures { result ≡ desk_call row }
-{
-    let code = row[0];
-    let id = row[1];
-    if code == UNDO {
-        return calls_code::read_as(row, 2, Ask::OnTable(Call::Own(id, Act::Undo)));
-    }
-    calls_code::request_of(row)
-}
 
 fn as_made(q: RequestRead) -> DeskRead
     ensures { result ≡ as_made q }
@@ -56,11 +41,11 @@ fn ask_of(row: [u64; ROW]) -> DeskRead
 {
     let code = row[0];
     if code < PREVIEW {
-        return as_made(call_of(row));
+        return as_made(calls_code::request_of(row));
     }
     let mut tried = row;
     tried[0] = code - PREVIEW;
-    as_tried(call_of(tried))
+    as_tried(calls_code::request_of(tried))
 }
 
 // What a line asks, given without its line feed.
@@ -170,14 +155,13 @@ fn record_numbers(x: Train) -> [u64; RECORD]
         held,
         penalty,
         x.authority.goal,
-        x.authority.undoable,
     ]
 }
 
 // The numbers of a record in their columns, after those of the answer.
 fn put_record(out: &mut [u8], numbers: [u64; RECORD])
-    requires { answer_width + record_width ≤ length out.old }
-    ensures { out.new ≡ paste out.old answer_width (text_of record_columns numbers) record_width }
+    requires { 268 ≤ length out.old }
+    ensures { out.new ≡ paste out.old 44 (text_of record_columns numbers) 224 }
 {
     let mut i: usize = 0;
     while i < RECORD {

@@ -3,10 +3,12 @@
 use Prim.Native.Nat.{ℕ}
 use mathlib.Core.Bool.{true, false}
 use mathlib.Core.Logic.{inl, inr}
+use mathlib.Core.Option.{some}
 use mathlib.Core.Path.{◌≡◌, refl, sym, ap, subst, ◌∙◌}
 use native.Mathlib.Omega.{arith}
 use lib.ListN.{length}
 use Rattle.logic.proofs.Tests.{by_test}
+use Rattle.brake.specs.declared.Figures.{Figures}
 use Rattle.calls.specs.declared.Opening.{Opening}
 use Rattle.calls.specs.declared.Entry.{Entry}
 use Rattle.calls.specs.declared.Act.{Act}
@@ -24,18 +26,23 @@ use Rattle.calls.proofs.Answers.{refusal_range}
 use Rattle.rights.specs.Rights.{may_ask}
 use Rattle.rights.proofs.Rights.{Right, opens, no_right}
 use Rattle.train.specs.declared.Train.{Train}
+use Rattle.train.specs.Record.{entering}
 use Rattle.train.specs.Ranges.{settings_in_range}
 use Rattle.train.proofs.Sentences.{Offers}
+use Rattle.acts.proofs.Sentences.{act_leaves}
 use Rattle.table.specs.declared.Table.{Table}
-use Rattle.table.specs.Table.{changed}
-use Rattle.table.proofs.Sentences.{zero_record}
+use Rattle.table.specs.declared.Change.TheVariants.{Put, Add}
+use Rattle.table.specs.Table.{place_of, train_at, changed}
+use Rattle.table.proofs.Places.{found_below, still_found, still_there}
+use Rattle.table.proofs.Trains.{Sized, sized_last}
+use Rattle.table.proofs.Sentences.{zero_record, found_exactly, absent_exactly, add_leaves, add_last}
 use Rattle.line.specs.declared.Decision.{Decision}
-use Rattle.line.specs.Decide.{refused, decide_on, out_of_turn, decided}
+use Rattle.line.specs.Decide.{refused, ruling_at, decide_on, out_of_turn, decided}
 use Rattle.line.specs.Step.{requested, no_table}
 use Rattle.line.specs.Preview.{shown_by, needs_opening, previewed}
-use Rattle.line.proofs.Steps.{any_call, any_request, open_taken, open_refused}
+use Rattle.line.proofs.Steps.{Admitted, any_call, any_request, open_taken, open_refused}
 use Rattle.line.proofs.Rules.{Kept, decision_kept, open_3, open_accepted}
-use Rattle.line.proofs.Stays.{Holds, entered, acted}
+use Rattle.line.proofs.Stays.{Holds}
 
 -- ---- "answers exactly what the call would answer on a copy of the table"
 
@@ -82,13 +89,41 @@ module _ (t : Table) (size : length t.trains ≡ 32) where
   shows_refused (Own id a) why = λ zero. let range = refusal_range why in absurd (omega arith)
   shows_refused (TakeOff id) why = refl
 
+  entered : (e : Entry) (k : Figures) → Admitted t e k → Holds (λ (x : Train). x ≡ entering e k) e.id (changed t (Add (entering e k)))
+  entered e k a =
+      let x = entering e k in
+      let free = a.room in
+      let sized : Sized t = record { size = size; count = omega arith } in
+      let absent = (absent_exactly t sized e.id).0 a.absent in
+      let last = add_last t x sized free in
+      record {
+        place = t.count;
+        found =
+            (found_exactly (changed t (Add x)) (sized_last t x sized free) e.id t.count).1
+            (record {
+              below = omega arith;
+              here = ap (λ (y : Train). y.id) last;
+              none_ahead = λ j before same. absent j before (ap (λ (y : Train). y.id) (sym (add_leaves t x j before)) ∙ same);
+            });
+        so = last;
+      }
+
+  acted : (id i : ℕ) (a : Act) → place_of t id ≡ some i → Holds (λ (x : Train). x ≡ (ruling_at t a i).after) id (changed t (Put i (ruling_at t a i).after))
+  acted id i a f =
+      let y = (ruling_at t a i).after in
+      record {
+        place = i;
+        found = still_found t i y (found_below t id i f) (act_leaves t.settings _ (train_at t i) a).id id ∙ f;
+        so = still_there t id i y f;
+      }
+
   call_shows : (c : Call) → Shows c (decide_on t (OnTable c))
   call_shows =
       any_call t Shows
       (record {
         refuses = shows_refused;
-        enters = λ e k a zero. entered t size e k a;
-        acts = λ id i a f passes zero. acted t id i a f;
+        enters = λ e k a zero. entered e k a;
+        acts = λ id i a f passes zero. acted id i a f;
         leaves = λ id i f may. refl;
       })
 

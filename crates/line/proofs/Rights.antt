@@ -13,7 +13,7 @@ use Rattle.brake.specs.declared.FiguresFound.{FiguresFound}
 use Rattle.brake.specs.declared.FiguresFound.TheVariants.{Given, NoFigures}
 use Rattle.calls.specs.declared.Opening.{Opening}
 use Rattle.calls.specs.declared.Act.{Act}
-use Rattle.calls.specs.declared.Act.TheVariants.{Report, Extend, CallBack, Hold, Lift, Undo}
+use Rattle.calls.specs.declared.Act.TheVariants.{Report, Extend, CallBack, Hold, Lift}
 use Rattle.calls.specs.declared.Call.{Call}
 use Rattle.calls.specs.declared.Call.TheVariants.{Enter, Own, TakeOff}
 use Rattle.calls.specs.declared.Ask.{Ask}
@@ -95,7 +95,6 @@ act_16 t i (Extend q) = refl
 act_16 t i (CallBack p) = refl
 act_16 t i Hold = refl
 act_16 t i Lift = refl
-act_16 t i Undo = refl
 
 ask_16 : (t : Table) (a : Ask) → (numbers_of (decide_on t a).answer).number ≡ 16 → ⊥
 unfolding decide_on open_decision enter_decision act_decision take_off_decision

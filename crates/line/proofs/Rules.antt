@@ -202,7 +202,7 @@ module _ (t : Table) (e : Entry) where
               figures = k;
               motion = record { head = e.head; speed = 0; level = k.full };
               order = Brake;
-              authority = record { end = e.head; goal = e.head; start = e.start; number = e.start; length = 0; undoable = 0 };
+              authority = record { end = e.head; goal = e.head; start = e.start; number = e.start; length = 0 };
               marks = record { held = false; penalty = false };
             } in
             step t (Enter e) ≡ outcome (Accepted (Entered k.full k.growth e.head)) (changed t (Add x))

@@ -7,7 +7,6 @@ use mathlib.Core.Option.{none, some}
 use mathlib.Core.Path.{◌≡◌, refl, sym, ap, ◌∙◌, subst}
 use native.Mathlib.Decide.{ℕ_discrete}
 use native.Mathlib.Omega.{arith}
-use lib.ListN.{length}
 use Rattle.brake.specs.declared.Figures.{Figures}
 use Rattle.calls.specs.declared.Opening.{Opening}
 use Rattle.calls.specs.declared.Entry.{Entry}
@@ -18,7 +17,6 @@ use Rattle.calls.specs.declared.Ask.{Ask}
 use Rattle.calls.specs.declared.Ask.TheVariants.{Open, OnTable}
 use Rattle.calls.specs.declared.Request.{Request}
 use Rattle.calls.specs.declared.Refusal.{Refusal}
-use Rattle.calls.specs.declared.Values.TheVariants.{Entered}
 use Rattle.calls.specs.Answers.{numbers_of}
 use Rattle.calls.specs.Checks.{first_of}
 use Rattle.calls.proofs.Answers.{accepted_0, refusal_range}
@@ -36,11 +34,11 @@ use Rattle.table.specs.Table.{places, place_of, train_at, changed}
 use Rattle.table.proofs.Places.{found_below, still_found, still_there}
 use Rattle.table.proofs.Trains.{Sized, sized_with, sized_last, sized_without_first}
 use Rattle.table.proofs.Spare.{Tidy, tidy_with, tidy_last, tidy_without_first}
-use Rattle.table.proofs.Sentences.{FirstWith, found_exactly, absent_exactly, put_leaves, add_leaves, add_last, drop_leaves}
+use Rattle.table.proofs.Sentences.{FirstWith, found_exactly, put_leaves, add_leaves, drop_leaves}
 use Rattle.line.specs.declared.Decision.{Decision}
-use Rattle.line.specs.Decide.{refused, accepted, ruling_at, decide_on}
+use Rattle.line.specs.Decide.{refused, ruling_at, decide_on}
 use Rattle.line.specs.Step.{carried_out, requested}
-use Rattle.line.proofs.Steps.{Admitted, step, any_call, any_request}
+use Rattle.line.proofs.Steps.{step, any_call, any_request}
 
 -- ---- the table has its 32 places, and no more are in use
 
@@ -144,67 +142,6 @@ pub record Holds (Q : Train → Type 0) (id : ℕ) (t : Table) : Type 0 where
   pub place : ℕ
   pub found : place_of t id ≡ some place
   pub so : Q (train_at t place)
-
--- a train that enters, and one that acts, stand in the table with the record that they get
-pub entered : (t : Table) → length t.trains ≡ 32 → (e : Entry) (k : Figures) → Admitted t e k
-    → Holds (λ (x : Train). x ≡ entering e k) e.id (changed t (Add (entering e k)))
-entered t size e k a =
-    let x = entering e k in
-    let free = a.room in
-    let sized : Sized t = record { size = size; count = omega arith } in
-    let absent = (absent_exactly t sized e.id).0 a.absent in
-    let last = add_last t x sized free in
-    record {
-      place = t.count;
-      found =
-          (found_exactly (changed t (Add x)) (sized_last t x sized free) e.id t.count).1
-          (record {
-            below = omega arith;
-            here = ap (λ (y : Train). y.id) last;
-            none_ahead = λ j before same. absent j before (ap (λ (y : Train). y.id) (sym (add_leaves t x j before)) ∙ same);
-          });
-      so = last;
-    }
-
-pub acted : (t : Table) (id i : ℕ) (a : Act) → place_of t id ≡ some i
-    → Holds (λ (x : Train). x ≡ (ruling_at t a i).after) id (changed t (Put i (ruling_at t a i).after))
-acted t id i a f =
-    let y = (ruling_at t a i).after in
-    record {
-      place = i;
-      found = still_found t i y (found_below t id i f) (act_leaves t.settings _ (train_at t i) a).id id ∙ f;
-      so = still_there t id i y f;
-    }
-
--- so what that record has holds of the train, once the call is accepted
-pub enter_holds : (Q : Train → Type 0) (t : Table) → length t.trains ≡ 32 → (e : Entry) → ((k : Figures) → Q (entering e k))
-    → (numbers_of (step t (Enter e)).answer).number ≡ 0 → Holds Q e.id (step t (Enter e)).table
-unfolding step
-enter_holds Q t size e so =
-    any_call t Shows
-    (record { refuses = refuses; enters = enters; acts = λ j p a f q. tt; leaves = λ j p f may. tt }) (Enter e) so
-  where
-    Shows : Call → Decision → Type 0
-    Shows (Enter e) d = ((k : Figures) → Q (entering e k)) → (numbers_of d.answer).number ≡ 0 → Holds Q e.id (changed t d.change)
-    Shows (Own j a) d = Unit {0}
-    Shows (TakeOff j) d = Unit {0}
-
-    refuses : (c : Call) (r : Refusal) → Shows c (refused r)
-    refuses (Enter e) r = λ so zero. let range = refusal_range r in absurd (omega arith)
-    refuses (Own j a) r = tt
-    refuses (TakeOff j) r = tt
-
-    enters : (e : Entry) (k : Figures) → Admitted t e k → Shows (Enter e) (accepted (Entered k.full k.growth e.head) (Add (entering e k)))
-    enters e k a so taken = let h = entered t size e k a in record { place = h.place; found = h.found; so = subst Q (sym h.so) (so k) }
-
-pub own_holds : (Q : Train → Type 0) (t : Table) (id : ℕ) (a : Act)
-    → ((i : ℕ) → place_of t id ≡ some i → first_of (ruling_at t a i).checks ≡ none → Q (ruling_at t a i).after)
-    → (numbers_of (step t (Own id a)).answer).number ≡ 0 → Holds Q id (step t (Own id a)).table
-own_holds Q t id a so taken =
-    let p = own_accepted t id a taken in
-    let h = acted t id p.place a p.found in
-    subst (Holds Q id) (sym p.table)
-    (record { place = h.place; found = h.found; so = subst Q (sym h.so) (so p.place p.found p.passes) })
 
 -- what is asked, with this answer number, does not take it off, and if it is an accepted act of it, keeps the property
 abbrev pub Keeps : (Train → Type 0) → ℕ → ℕ → Ask → Type 0

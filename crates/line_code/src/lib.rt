@@ -1,4 +1,4 @@
-// The calls on the table of trains: document 01, "Authorities" and "What is turned down"; document 02, (iii) and (vii). Each names its caller. It is
+// The calls on the table of trains: document 01, "Authorities" and "What is turned down"; document 02, (iii). Each names its caller. It is
 // decided first, and then the table is changed. A preview, document 02, (v), is decided alone.
 ghost use Rattle.std.specs.Prelude.{◌≡◌, true, false};
 ghost use Rattle.calls.specs.Requests.{request};
@@ -60,13 +60,6 @@ pub fn call_back(t: Table, caller: u64, id: u64, place: u64) -> Outcome
     ensures { result ≡ requested true t (request caller (Ask.OnTable (Call.Own id (Act.CallBack place)))) }
 {
     call(t, caller, Call::Own(id, Act::CallBack(place)))
-}
-
-// Handing an extension back.
-pub fn undo(t: Table, caller: u64, id: u64) -> Outcome
-    ensures { result ≡ requested true t (request caller (Ask.OnTable (Call.Own id Act.Undo))) }
-{
-    call(t, caller, Call::Own(id, Act::Undo))
 }
 
 pub fn hold(t: Table, caller: u64, id: u64) -> Outcome

@@ -4,7 +4,7 @@ use mathlib.Core.Path.{◌≡◌, refl}
 use mathlib.Core.List.{[]}
 use Rattle.stream.specs.Session.{closed}
 use Rattle.stream.specs.Input.{lines, last_answer, output}
-use Rattle.desk_line.specs.Desk.{desk_call, desk_ask, desk_read, shown_at, left_at}
+use Rattle.desk_line.specs.Desk.{desk_ask, desk_read, shown_at, left_at}
 use Rattle.desk_line.specs.Columns.{desk_line, desk_answers}
 use Rattle.papers.specs.Paper.{paper_session, penalty_session, desk_session}
 use Rattle.papers.specs.Exchanges.{input_of, output_of}
@@ -20,7 +20,7 @@ pub penalty_session_lem : output (input_of penalty_session) ≡ output_of penalt
 unfolding ran last_answer
 penalty_session_lem = refl
 
--- the example of previews and of an undoing, at the desk
+-- the example of previews, at the desk
 pub desk_session_lem : desk_answers closed (lines [] (input_of desk_session)) ≡ output_of desk_session
-unfolding ran desk_call desk_ask desk_read shown_at left_at desk_line desk_answers
+unfolding ran desk_ask desk_read shown_at left_at desk_line desk_answers
 desk_session_lem = refl

@@ -16,7 +16,7 @@ use Rattle.train.specs.Ranges.{settings_in_range}
 use Rattle.train.specs.Record.{is_pending}
 use Rattle.train.specs.Track.{steps_of, limit_behind}
 use Rattle.train.specs.Report.{allowed, moves, must_brake, order_after, is_penalty, settled, reported, computable, report_allowed}
-use Rattle.acts.specs.Acts.{request_in_range, is_repeat, extended, is_old, called_back, call_back_allowed, undo_allowed, may_leave}
+use Rattle.acts.specs.Acts.{request_in_range, is_repeat, extended, is_old, called_back, call_back_allowed, may_leave}
 use Rattle.table.specs.Table.{place_in, place_of, ahead_of}
 use Rattle.line.specs.Decide.{open_decision, enter_decision, act_decision, take_off_decision, decide_on, decided}
 use Rattle.wire.specs.Format.{digit, column, columns, numbers_in, line_read, left, text, text_of, answer_text}
@@ -54,7 +54,7 @@ all_ended (x ∷ xs) = rest_anew [] (bytes_of x.input) (input_of xs) ∙ all_end
 
 -- how things stand after lines from the state s on, and what has been written
 unfoldable pub ran : Session → List Exchange → Standing
-unfolding ceil_div between car_of full_brake application_time application_cycles sheet_entry entry_for brake_cycles figures_with figures_by figures_of brake_travel brake_speed next_level drive_travel drive_speed stands braked_cycle first_cycles enough_cycles braked_run total_travel stopping_distance stopping_place cap_fits greatest order_for in_bounds first_of all_zero read_as request_of settings_in_range request_in_range steps_of limit_behind allowed moves must_brake order_after is_penalty is_pending settled reported computable report_allowed is_repeat extended is_old called_back call_back_allowed undo_allowed may_leave place_in place_of ahead_of open_decision enter_decision act_decision take_off_decision decide_on decided may_ask digit column columns numbers_in line_read left text text_of answer_text line_decision lines rest output_line answers bytes_of input_of output_of walked
+unfolding ceil_div between car_of full_brake application_time application_cycles sheet_entry entry_for brake_cycles figures_with figures_by figures_of brake_travel brake_speed next_level drive_travel drive_speed stands braked_cycle first_cycles enough_cycles braked_run total_travel stopping_distance stopping_place cap_fits greatest order_for in_bounds first_of all_zero read_as request_of settings_in_range request_in_range steps_of limit_behind allowed moves must_brake order_after is_penalty is_pending settled reported computable report_allowed is_repeat extended is_old called_back call_back_allowed may_leave place_in place_of ahead_of open_decision enter_decision act_decision take_off_decision decide_on decided may_ask digit column columns numbers_in line_read left text text_of answer_text line_decision lines rest output_line answers bytes_of input_of output_of walked
 ran s xs = walked s (lines [] (input_of xs))
 
 pub ran_stands : (s : Session) (xs : List Exchange) → ran s xs ≡ standing s [] [] (input_of xs)

@@ -15,7 +15,7 @@ use Rattle.calls.specs.declared.Opening.{Opening}
 use Rattle.calls.specs.declared.Entry.{Entry}
 use Rattle.calls.specs.declared.Reading.{Reading}
 use Rattle.calls.specs.declared.Extension.{Extension}
-use Rattle.calls.specs.declared.Act.TheVariants.{Report, Extend, CallBack, Hold, Lift, Undo}
+use Rattle.calls.specs.declared.Act.TheVariants.{Report, Extend, CallBack, Hold, Lift}
 use Rattle.calls.specs.declared.Call.TheVariants.{Enter, Own, TakeOff}
 use Rattle.calls.specs.declared.Ask.{Ask}
 use Rattle.calls.specs.declared.Ask.TheVariants.{Open, OnTable}
@@ -26,8 +26,6 @@ pub data Right : ℕ → Ask → Type 0 where
   -- "1 to 65535 the train of that id": "A train may report and extend for itself only"
   reports : {id : ℕ} {r : Reading} → 1 ≤ id → id ≤ 65535 → Right id (OnTable (Own id (Report r)))
   extends : {id : ℕ} {q : Extension} → 1 ≤ id → id ≤ 65535 → Right id (OnTable (Own id (Extend q)))
-  -- (vii): "the right is the train's own"
-  undoes : {id : ℕ} → 1 ≤ id → id ≤ 65535 → Right id (OnTable (Own id Undo))
   -- "0 dispatcher": "the dispatcher opens, calls back, holds and lifts"
   opens : {o : Opening} → Right 0 (Open o)
   calls_back : {id place : ℕ} → Right 0 (OnTable (Own id (CallBack place)))
@@ -58,14 +56,12 @@ has n (OnTable (Own id (Extend q))) = itself id n _ extends
 has n (OnTable (Own id (CallBack p))) = only 0 n _ calls_back
 has n (OnTable (Own id Hold)) = only 0 n _ holds
 has n (OnTable (Own id Lift)) = only 0 n _ lifts
-has n (OnTable (Own id Undo)) = itself id n _ undoes
 has n (OnTable (TakeOff id)) = only 70000 n _ takes_off
 
 may : (n : ℕ) (a : Ask) → Right n a → may_ask n a ≡ true
 unfolding may_ask
 may n a (reports low high) = rw ((train_id n).1 (low, high), eq-eqb n n refl)
 may n a (extends low high) = rw ((train_id n).1 (low, high), eq-eqb n n refl)
-may n a (undoes low high) = rw ((train_id n).1 (low, high), eq-eqb n n refl)
 may n a opens = refl
 may n a calls_back = refl
 may n a holds = refl
@@ -83,7 +79,6 @@ no_right n a lacks = by_test (may_ask n a) (λ e. absurd (lacks (has n a e))) (�
 pub nobody : (n : ℕ) → 65535 < n → (n ≡ 70000 → ⊥) → (a : Ask) → Right n a → ⊥
 nobody n above other a (reports low high) = omega arith
 nobody n above other a (extends low high) = omega arith
-nobody n above other a (undoes low high) = omega arith
 nobody n above other a opens = omega arith
 nobody n above other a calls_back = omega arith
 nobody n above other a holds = omega arith

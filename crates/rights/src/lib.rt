@@ -1,4 +1,4 @@
-// Who may ask what: document 02, (iii) and (vii). The right is judged by the caller's number, the kind of call and the id that it names. No table is
+// Who may ask what: document 02, (iii). The right is judged by the caller's number, the kind of call and the id that it names. No table is
 // at hand here.
 ghost use Rattle.std.specs.Prelude.{◌≡◌};
 ghost use Rattle.rights.specs.Rights.{is_train, may_ask};
@@ -17,7 +17,7 @@ fn is_train(id: u64, caller: u64) -> bool
     logic::both(ranges::id_in_range(caller), caller == id)
 }
 
-// A train reports, extends and undoes; the dispatcher calls back, holds and lifts.
+// A train reports and extends; the dispatcher calls back, holds and lifts.
 fn may_act(caller: u64, id: u64, a: Act) -> bool
     ensures { result ≡ may_ask caller (Ask.OnTable (Call.Own id a)) }
 {
@@ -27,7 +27,6 @@ fn may_act(caller: u64, id: u64, a: Act) -> bool
         Act::CallBack(_) => caller == DISPATCHER,
         Act::Hold => caller == DISPATCHER,
         Act::Lift => caller == DISPATCHER,
-        Act::Undo => is_train(id, caller),
     }
 }
 

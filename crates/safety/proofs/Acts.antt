@@ -1,8 +1,8 @@
 -- An accepted act of a train: its record is what the history tells, the invariant holds on, and what the act gives is within bounds.
 -- Assumes nothing.
-use Prim.Native.Nat.{ℕ, zero, suc, ◌+◌, ◌-◌, ◌≤◌, ◌<◌}
+use Prim.Native.Nat.{ℕ, zero, suc, ◌+◌, ◌≤◌, ◌<◌}
 use mathlib.Core.Bool.{Bool, true, false, cond, not, ◌&&◌}
-use mathlib.Core.Logic.{by_cases, inl, inr}
+use mathlib.Core.Logic.{by_cases}
 use mathlib.Core.Option.{Option, none, some, map, get_or}
 use mathlib.Core.Path.{◌≡◌, refl, sym, ap, ◌∙◌, subst}
 use native.Mathlib.Decide.{ℕ_discrete}
@@ -25,10 +25,10 @@ use Rattle.motion.proofs.Slowing.{Slowed, slowed_start, slowed_brake}
 use Rattle.calls.specs.declared.Reading.{Reading}
 use Rattle.calls.specs.declared.Extension.{Extension}
 use Rattle.calls.specs.declared.Act.{Act}
-use Rattle.calls.specs.declared.Act.TheVariants.{Report, Extend, CallBack, Hold, Lift, Undo}
+use Rattle.calls.specs.declared.Act.TheVariants.{Report, Extend, CallBack, Hold, Lift}
 use Rattle.calls.specs.declared.Answer.TheVariants.{Accepted}
 use Rattle.calls.specs.declared.Values.{Values}
-use Rattle.calls.specs.declared.Values.TheVariants.{Entered, Ordered, Extended, Single, Zeros}
+use Rattle.calls.specs.declared.Values.TheVariants.{Entered, Ordered, Extended, Zeros}
 use Rattle.calls.specs.Answers.{numbers_of}
 use Rattle.calls.specs.Checks.{first_of}
 use Rattle.calls.proofs.Checks.{passed}
@@ -43,10 +43,9 @@ use Rattle.acts.specs.Acts.{is_repeat, granted, extended, called_back}
 use Rattle.acts.specs.Decide.{Ruling, decide}
 use Rattle.train.proofs.Records.{held_brakes, penalty_brakes}
 use Rattle.train.proofs.Track.{InLimit, limit_tested, limit_below}
-use Rattle.train.proofs.Pending.{Aims, Left}
+use Rattle.train.proofs.Pending.{Aims}
 use Rattle.train.proofs.Checks.{report_allowed_lem, allowed_head, allowed_no_worse}
 use Rattle.acts.proofs.Checks.{call_back_allowed_lem}
-use Rattle.acts.proofs.Sentences.{undo_near}
 use Rattle.safety.specs.History.{Counts, Told, level_after, order_in, braked_after, longer, done_by, still, told_act}
 use Rattle.safety.specs.Claim.{record_of}
 use Rattle.safety.proofs.Train.{AtRest, Guarded, guarded_report, guarded_still}
@@ -96,7 +95,6 @@ abbrev pub Within : Settings → Limit → Values → Type 0
 Within σ limit (Entered full growth e) = ⊥
 Within σ limit (Ordered o r) = (order_cap o ≤ σ.maxima.traction) × InLimit limit r
 Within σ limit (Extended e repeat) = InLimit limit e
-Within σ limit (Single n) = InLimit limit n
 Within σ limit Zeros = Unit {0}
 
 module _ (σ : Settings) (limit : Limit) (x : Told) (steady : Steady σ limit x) where
@@ -170,13 +168,13 @@ module _ (σ : Settings) (limit : Limit) (x : Told) (steady : Steady σ limit x)
   abbrev stays : Authority → Counts → Told
   stays a n = record { entry = x.entry; figures = x.figures; now = still x.now a n }
 
-  steady_still : (a : Authority) (c : Option ℕ) → InLimit limit a.end → Aims (reach_of (record_of x)) a → AtRest (record_of x) a → Left a → Slowing σ (record_of x) c
+  steady_still : (a : Authority) (c : Option ℕ) → InLimit limit a.end → Aims (reach_of (record_of x)) a → AtRest (record_of x) a → Slowing σ (record_of x) c
       → Steady σ limit (stays a (record { held = c; braked = x.now.counts.braked }))
   unfolding record_of
-  steady_still a c limited aims rests left slow =
+  steady_still a c limited aims rests slow =
       record {
         consist = steady.consist;
-        guarded = guarded_still σ limit (record_of x) steady.guarded a _ limited aims rests left;
+        guarded = guarded_still σ limit (record_of x) steady.guarded a _ limited aims rests;
         held_slows = go c slow;
         braked_slows = go x.now.counts.braked steady.braked_slows;
       }
@@ -194,12 +192,12 @@ module _ (σ : Settings) (limit : Limit) (x : Told) (steady : Steady σ limit x)
   -- b says whether an extension is a repeat
   extended_end : (q : Extension) (b : Bool) → not b && not (within_limit limit (x.now.authority.end + q.length)) ≡ false
       → let a = cond b x.now.authority (granted x.now.authority q) in
-      InLimit limit a.end × Aims (reach_of (record_of x)) a × AtRest (record_of x) a × Left a
+      InLimit limit a.end × Aims (reach_of (record_of x)) a × AtRest (record_of x) a
   unfolding record_of
-  extended_end q true e = (steady.guarded.end_in_limit, steady.guarded.aims, steady.guarded.at_rest, steady.guarded.left)
+  extended_end q true e = (steady.guarded.end_in_limit, steady.guarded.aims, steady.guarded.at_rest)
   extended_end q false e =
       let reached = steady.guarded.aims.reach in
-      (limit_tested limit _ (not-false _ e), record { reach = omega arith; goal = le_refl _; short = λ pending. absurd (pending refl) }, λ braked standing. refl, inr (refl, refl))
+      (limit_tested limit _ (not-false _ e), record { reach = omega arith; goal = le_refl _; short = λ pending. absurd (pending refl) }, λ braked standing. refl)
 
   -- a train that stands under brake reaches no further than its head
   wanted_moving : (p : ℕ) → (record_of x).motion.head ≤ p → p < reach_of (record_of x) → AtRest (record_of x) (wanting x.now.authority p)
@@ -232,11 +230,11 @@ module _ (σ : Settings) (limit : Limit) (x : Told) (steady : Steady σ limit x)
   act_kept (Extend q) e =
       let last = passed _ _ _ (passed _ _ _ (passed _ _ _ (passed _ _ _ (passed _ _ _ e).1).1).1).1 in
       let a = longer x.now.authority q in
-      let (limited, aims, rests, left) = extended_end q (eqb q.number x.now.authority.number) last.0 in
+      let (limited, aims, rests) = extended_end q (eqb q.number x.now.authority.number) last.0 in
       let same : record_of (after_act (Extend q)) ≡ extended (record_of x) q = by_test (eqb q.number x.now.authority.number) (λ e. rw e) (λ e. rw e) in
       record {
         told = same;
-        keeps = steady_still a x.now.counts.held limited aims rests left steady.held_slows;
+        keeps = steady_still a x.now.counts.held limited aims rests steady.held_slows;
         onward = le_refl _;
         within = subst (λ (y : Train). InLimit limit y.authority.end) same limited;
       }
@@ -245,26 +243,19 @@ module _ (σ : Settings) (limit : Limit) (x : Told) (steady : Steady σ limit x)
       let g = steady.guarded in
       by_test (leb (reach_of (record_of x)) p)
       (λ far.
-      let moved = steady_still (ending_at x.now.authority p) x.now.counts.held (limit_below limit high g.end_in_limit) (record { reach = leb-true _ _ far; goal = le_refl _; short = λ pending. absurd (pending refl) }) (λ braked standing. refl) (inl refl) steady.held_slows in
+      let moved = steady_still (ending_at x.now.authority p) x.now.counts.held (limit_below limit high g.end_in_limit) (record { reach = leb-true _ _ far; goal = le_refl _; short = λ pending. absurd (pending refl) }) (λ braked standing. refl) steady.held_slows in
       record { told = rw far; keeps = rw far moved; onward = le_refl _; within = tt })
       (λ short.
-      let waits = steady_still (wanting x.now.authority p) x.now.counts.held g.end_in_limit (record { reach = g.aims.reach; goal = high; short = λ pending. leb-false _ _ short }) (wanted_moving p behind (leb-false _ _ short)) (inl refl) steady.held_slows in
+      let waits = steady_still (wanting x.now.authority p) x.now.counts.held g.end_in_limit (record { reach = g.aims.reach; goal = high; short = λ pending. leb-false _ _ short }) (wanted_moving p behind (leb-false _ _ short)) steady.held_slows in
       record { told = rw short; keeps = rw short waits; onward = le_refl _; within = tt })
-  act_kept Undo e =
-      let g = steady.guarded in
-      let near = undo_near (record_of x) (not-false _ (passed _ _ _ (passed _ _ _ e).1).0) in
-      let shorter = x.now.authority.end - x.now.authority.undoable in
-      let limited = limit_below limit {p = shorter} {q = x.now.authority.end} (omega arith) g.end_in_limit in
-      let kept = steady_still (ending_at x.now.authority shorter) x.now.counts.held limited (record { reach = omega arith; goal = le_refl _; short = λ pending. absurd (pending refl) }) (λ braked standing. refl) (inl refl) steady.held_slows in
-      record { told = refl; keeps = kept; onward = le_refl _; within = limited }
   act_kept Hold e =
       let g = steady.guarded in
       record {
         told = refl;
-        keeps = steady_still x.now.authority (some (get_or x.now.counts.held 0)) g.end_in_limit g.aims g.at_rest g.left (slowing_hold x.now.counts.held steady.held_slows);
+        keeps = steady_still x.now.authority (some (get_or x.now.counts.held 0)) g.end_in_limit g.aims g.at_rest (slowing_hold x.now.counts.held steady.held_slows);
         onward = le_refl _;
         within = tt;
       }
   act_kept Lift e =
       let g = steady.guarded in
-      record { told = refl; keeps = steady_still x.now.authority none g.end_in_limit g.aims g.at_rest g.left tt; onward = le_refl _; within = tt }
+      record { told = refl; keeps = steady_still x.now.authority none g.end_in_limit g.aims g.at_rest tt; onward = le_refl _; within = tt }

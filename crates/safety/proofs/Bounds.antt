@@ -1,12 +1,11 @@
 -- On every table that calls left, each train's record is within the bounds that the code tests, so these tests alter no answer.
 -- Assumes nothing.
-use Prim.Native.Nat.{ℕ, zero, suc, ◌+◌, ◌≤◌, ◌<◌}
+use Prim.Native.Nat.{ℕ, zero, suc, ◌≤◌, ◌<◌}
 use mathlib.Core.Bool.{true}
 use mathlib.Core.Logic.{inl}
 use mathlib.Core.List.{List, [], ◌∷◌}
 use mathlib.Core.Path.{◌≡◌, refl, ◌∙◌}
 use native.Mathlib.Omega.{arith}
-use lib.Dec.{leb}
 use lib.ListN.{length}
 use borrow.Author.Tests.{le-leb}
 use Rattle.logic.proofs.Tests.{by_test}
@@ -29,13 +28,13 @@ use Rattle.calls.specs.declared.Values.TheVariants.{Zeros}
 use Rattle.ranges.specs.Ranges.{between}
 use Rattle.train.specs.Ranges.{settings_in_range, WorksWith}
 use Rattle.table.specs.Table.{train_at, limit_at}
-use Rattle.train.specs.Report.{reach_of, allowed, motion_after, computable, report_allowed}
-use Rattle.acts.specs.Acts.{call_back_allowed, undo_allowed}
+use Rattle.train.specs.Report.{allowed, motion_after, computable, report_allowed}
+use Rattle.acts.specs.Acts.{call_back_allowed}
 use Rattle.line.specs.Step.{outcome, open_step}
 use Rattle.line.proofs.Steps.{open_made}
 use Rattle.train.proofs.Checks.{allowed_no_worse}
 use Rattle.train.proofs.Sentences.{settings_exactly}
-use Rattle.acts.proofs.Sentences.{call_back_tested, undo_tested}
+use Rattle.acts.proofs.Sentences.{call_back_tested}
 use Rattle.safety.specs.History.{Deed, history, after, Told, told}
 use Rattle.safety.specs.Claim.{record_of}
 use Rattle.safety.proofs.Train.{Guarded, guarded_head}
@@ -91,9 +90,6 @@ module _ (σ : Settings) (ρ : InRange σ) (limit : Limit) (x : Train) (t : OnTr
 
   track_call_back : (place : ℕ) → call_back_allowed x place ≡ between x.motion.head x.authority.end place
   track_call_back place = call_back_tested x place track_computable
-
-  track_undo : undo_allowed x ≡ leb (reach_of x + x.authority.undoable) x.authority.end
-  track_undo = undo_tested x track_computable
 
 -- ---- all trains
 
@@ -155,7 +151,3 @@ module _ (o : Opening) (t : Table) (opened : open_step o ≡ outcome (Accepted Z
   pub call_back_judged : (i : ℕ) → i < left.count → (place : ℕ)
       → call_back_allowed (train_at left i) place ≡ between (train_at left i).motion.head (train_at left i).authority.end place
   call_back_judged i h = track_call_back left.settings left_ranges _ (train_at left i) (track i h)
-
-  pub undo_judged : (i : ℕ) → i < left.count
-      → undo_allowed (train_at left i) ≡ leb (reach_of (train_at left i) + (train_at left i).authority.undoable) (train_at left i).authority.end
-  undo_judged i h = track_undo left.settings left_ranges _ (train_at left i) (track i h)

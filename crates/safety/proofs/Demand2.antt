@@ -3,7 +3,7 @@
 -- motion/proofs/Sentences and OrderSentences, of figures in brake/proofs/Sentences. Entering and taking off, which ask no list, are in line/proofs/Rules.
 -- `step` is what a call comes to by a caller with the right (line/proofs/Rights: call-rightful).
 -- Assumes nothing.
-use Prim.Native.Nat.{ℕ, suc, ◌+◌, ◌-◌, ◌*◌, ◌≤◌, ◌<◌}
+use Prim.Native.Nat.{ℕ, suc, ◌+◌, ◌*◌, ◌≤◌, ◌<◌}
 use mathlib.Core.Bool.{Bool, true, false}
 use mathlib.Core.List.{List, ◌∷◌, ◌++◌}
 use mathlib.Core.Logic.{by_cases, ◌⊎◌, inl, inr, ◌↔◌}
@@ -24,11 +24,11 @@ use Rattle.motion.proofs.OrderSentences.{GreatestCap, standing_at_end}
 use Rattle.calls.specs.declared.Opening.{Opening}
 use Rattle.calls.specs.declared.Reading.{Reading}
 use Rattle.calls.specs.declared.Extension.{Extension}
-use Rattle.calls.specs.declared.Act.TheVariants.{Report, Extend, CallBack, Hold, Lift, Undo}
+use Rattle.calls.specs.declared.Act.TheVariants.{Report, Extend, CallBack, Hold, Lift}
 use Rattle.calls.specs.declared.Call.TheVariants.{Own}
-use Rattle.calls.specs.declared.Refusal.TheVariants.{NotAllowed, BadRequest, OldNumber, OtherLength, NoTrack, BadPlace, Pending, NothingToUndo, ReachPast}
+use Rattle.calls.specs.declared.Refusal.TheVariants.{NotAllowed, BadRequest, OldNumber, OtherLength, NoTrack, BadPlace, Pending}
 use Rattle.calls.specs.declared.Answer.TheVariants.{Accepted, Refused}
-use Rattle.calls.specs.declared.Values.TheVariants.{Ordered, Extended, Single, Zeros}
+use Rattle.calls.specs.declared.Values.TheVariants.{Ordered, Extended, Zeros}
 use Rattle.train.specs.declared.Authority.{Authority}
 use Rattle.train.specs.declared.Train.{Train}
 use Rattle.train.specs.Record.{same}
@@ -37,7 +37,7 @@ use Rattle.train.proofs.Track.{InLimit}
 use Rattle.train.specs.Ranges.{WorksWith}
 use Rattle.train.proofs.Records.{free_order}
 use Rattle.train.proofs.Sentences.{Allows, report_exactly, level_found, penalty_order, held_order, as_usual, free_drives, free_brakes, mark_exactly}
-use Rattle.acts.proofs.Sentences.{report_9, report_answered, WellFormed, extension_10, extension_11, extension_12, extension_repeated, extension_17, extension_13, extension_taken, call_back_moves, call_back_pends, call_back_14, undoing_18, undoing_19, undoing_taken, hold_marks, lift_unmarks}
+use Rattle.acts.proofs.Sentences.{report_9, report_answered, WellFormed, extension_10, extension_11, extension_12, extension_repeated, extension_17, extension_13, extension_taken, call_back_moves, call_back_pends, call_back_14, hold_marks, lift_unmarks}
 use Rattle.table.specs.declared.Table.{Table}
 use Rattle.table.specs.declared.Change.TheVariants.{Put}
 use Rattle.table.specs.Table.{place_of, train_at, limit_at, changed}
@@ -213,7 +213,7 @@ module _ (o : Opening) (t : Table) (opened : open_step o ≡ outcome (Accepted Z
 
               pub extend_accepted : InLimit (limit_at now i) (x.authority.end + q.length)
                   → let longer : Authority =
-                  record { end = x.authority.end + q.length; goal = x.authority.end + q.length; start = x.authority.start; number = q.number; length = q.length; undoable = q.length } in
+                  record { end = x.authority.end + q.length; goal = x.authority.end + q.length; start = x.authority.start; number = q.number; length = q.length } in
                   step now (Own id (Extend q))
                   ≡ outcome (Accepted (Extended (x.authority.end + q.length) false)) (changed now (Put i (same x x.motion x.order longer x.marks)))
               extend_accepted within = own_step now id i found (Extend q) _ (extension_taken now.settings (limit_at now i) x q a above new free within)
@@ -225,35 +225,17 @@ module _ (o : Opening) (t : Table) (opened : open_step o ≡ outcome (Accepted Z
 
     -- "the end becomes a named place from reach to end, both included"
     pub call_back_accepted : (place : ℕ) → reach x.figures x.motion x.order ≤ place → place ≤ x.authority.end
-        → let nearer : Authority = record { end = place; goal = place; start = x.authority.start; number = x.authority.number; length = x.authority.length; undoable = 0 } in
+        → let nearer : Authority = record { end = place; goal = place; start = x.authority.start; number = x.authority.number; length = x.authority.length } in
         step now (Own id (CallBack place)) ≡ outcome (Accepted Zeros) (changed now (Put i (same x x.motion x.order nearer x.marks)))
     call_back_accepted place low high =
         own_step now id i found (CallBack place) _ (call_back_moves now.settings (limit_at now i) x place (always_computable o t opened ds i below) low high)
 
     -- "from the train's head up to just short of its reach": pending
     pub call_back_pending : (place : ℕ) → x.motion.head ≤ place → place < reach x.figures x.motion x.order → place ≤ x.authority.end
-        → let waiting : Authority = record { end = x.authority.end; goal = place; start = x.authority.start; number = x.authority.number; length = x.authority.length; undoable = 0 } in
+        → let waiting : Authority = record { end = x.authority.end; goal = place; start = x.authority.start; number = x.authority.number; length = x.authority.length } in
         step now (Own id (CallBack place)) ≡ outcome (Accepted Zeros) (changed now (Put i (same x x.motion x.order waiting x.marks)))
     call_back_pending place low short high =
         own_step now id i found (CallBack place) _ (call_back_pends now.settings (limit_at now i) x place (always_computable o t opened ds i below) low short high)
-
-    -- document 02, (vii). 18, where nothing is left to undo: when that is so, by what was called since the extension, is said in Undoing
-    pub undo_18 : x.authority.undoable ≡ 0 → step now (Own id Undo) ≡ outcome (Refused NothingToUndo) now
-    undo_18 nothing = own_step now id i found Undo _ (undoing_18 now.settings (limit_at now i) x nothing)
-
-    module _ (left : 0 < x.authority.undoable) where
-      -- 19, "the reach lies past the shorter end"
-      pub undo_19 : x.authority.end < reach x.figures x.motion x.order + x.authority.undoable
-          → step now (Own id Undo) ≡ outcome (Refused ReachPast) now
-      undo_19 past = own_step now id i found Undo _ (undoing_19 now.settings (limit_at now i) x left past)
-
-      -- "Undoing takes off the length"; "The answer is the shorter end"
-      pub undo_accepted : reach x.figures x.motion x.order + x.authority.undoable ≤ x.authority.end
-          → let e = x.authority.end - x.authority.undoable in
-          let shorter : Authority = record { end = e; goal = e; start = x.authority.start; number = x.authority.number; length = x.authority.length; undoable = 0 } in
-          step now (Own id Undo) ≡ outcome (Accepted (Single e)) (changed now (Put i (same x x.motion x.order shorter x.marks)))
-      undo_accepted near =
-          own_step now id i found Undo _ (undoing_taken now.settings (limit_at now i) x left (always_computable o t opened ds i below) near)
 
     -- hold and lift are taken always, and change their mark alone: "Lifting a hold does not shorten" a penalty brake
     pub hold_accepted : step now (Own id Hold) ≡ outcome (Accepted Zeros) (changed now (Put i (same x x.motion x.order x.authority (record { held = true; penalty = x.marks.penalty }))))

@@ -8,10 +8,8 @@ pub mod Demand3
 pub mod Plain
 pub mod Bounds
 pub mod Demand2
-pub mod Lists
 pub mod Repeats
 pub mod Pending
-pub mod Undoing
 pub mod Emptied
 pub mod Previews
 pub mod Refuted

@@ -75,7 +75,6 @@ lined_wider σ a b wider (x ∷ xs) l =
       end_in_limit = wider _ g.end_in_limit;
       aims = g.aims;
       at_rest = g.at_rest;
-      left = g.left;
       within = g.within;
     } in
     (record { consist = l.0.consist; guarded = guarded; held_slows = l.0.held_slows; braked_slows = l.0.braked_slows }, l.1, l.2)

@@ -27,7 +27,7 @@ use Rattle.motion.proofs.OrderSentences.{cycles_counted}
 use Rattle.calls.specs.declared.Opening.{Opening}
 use Rattle.calls.specs.declared.Reading.{Reading}
 use Rattle.calls.specs.declared.Act.{Act}
-use Rattle.calls.specs.declared.Act.TheVariants.{Report, Extend, CallBack, Hold, Lift, Undo}
+use Rattle.calls.specs.declared.Act.TheVariants.{Report, Extend, CallBack, Hold, Lift}
 use Rattle.calls.specs.declared.Call.TheVariants.{Enter, Own, TakeOff}
 use Rattle.calls.specs.declared.Ask.{Ask}
 use Rattle.calls.specs.declared.Ask.TheVariants.{Open, OnTable}
@@ -63,7 +63,7 @@ use Rattle.safety.specs.History.{Deed, made, tried, done, Event, history, after,
 use Rattle.safety.proofs.Train.{Guarded, report_aims, guarded_report}
 use Rattle.safety.proofs.Calls.{agrees}
 use Rattle.safety.proofs.Bounds.{track}
-use Rattle.safety.proofs.Lists.{Takes, takes, after_both, follows}
+use Rattle.safety.proofs.Repeats.{Takes, takes}
 
 -- what n reports in a row, after each of which a call back is pending, come to: the train moves under brake, and has slowed down
 abbrev Braking : ℕ → ℕ → Train → Type 0
@@ -198,7 +198,6 @@ braking_act ceiling (suc n) σ limit x (Extend q) other brakes = by_test (is_rep
 braking_act ceiling (suc n) σ limit x (CallBack place) other brakes = brakes
 braking_act ceiling (suc n) σ limit x Hold other brakes = brakes
 braking_act ceiling (suc n) σ limit x Lift other brakes = brakes
-braking_act ceiling (suc n) σ limit x Undo other brakes = brakes
 
 -- the event is a report of the train that was accepted
 abbrev pub Reported : ℕ → Event → Type 0
@@ -213,6 +212,15 @@ Reports id n (e ∷ es) = ((m : ℕ) × (n ≡ suc m) × Reported id e × Report
 abbrev pub Waits : ℕ → Table → List Deed → Type 0
 Waits id t [] = Unit {0}
 Waits id t (d ∷ ds) = Waiting id (done t d).table × Waits id (done t d).table ds
+
+after_both : (t : Table) (before since : List Deed) → after t (before ++ since) ≡ after (after t before) since
+unfolding after
+after_both t [] since = refl
+after_both t (d ∷ before) since = after_both (done t d).table before since
+
+follows : (t : Table) (before : List Deed) (u : Table) (d : Deed) → u ≡ after t before → (done u d).table ≡ after t (before ++ (d ∷ []))
+unfolding after
+follows t before u d is = ap (λ (w : Table). (done w d).table) is ∙ sym (after_both t before (d ∷ []))
 
 -- a deed on the table u, with its answer
 abbrev event_of : Table → Deed → Event

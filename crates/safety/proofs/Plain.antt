@@ -23,7 +23,7 @@ use Rattle.calls.specs.declared.Opening.{Opening}
 use Rattle.calls.specs.declared.Entry.{Entry}
 use Rattle.calls.specs.declared.Reading.{Reading}
 use Rattle.calls.specs.declared.Extension.{Extension}
-use Rattle.calls.specs.declared.Act.TheVariants.{Report, Extend, CallBack, Hold, Lift, Undo}
+use Rattle.calls.specs.declared.Act.TheVariants.{Report, Extend, CallBack, Hold, Lift}
 use Rattle.calls.specs.declared.Numbers.{Numbers}
 use Rattle.calls.specs.declared.Answer.TheVariants.{Accepted}
 use Rattle.calls.specs.declared.Values.TheVariants.{Zeros}
@@ -213,12 +213,11 @@ module _ (k : Figures) (s : State) (n : Numbers) where
   unfolding told_act stands
   braked_stood r standing = rw (eq-eqb r.speed 0 standing)
 
-  -- a hold and a lift leave that count, and an extension, a call back and an undoing both
+  -- a hold and a lift leave that count, and an extension and a call back both
   pub hold_keeps : ((told_act k s n Hold).counts.braked ≡ s.counts.braked) × ((told_act k s n Lift).counts.braked ≡ s.counts.braked)
   unfolding told_act
   hold_keeps = (refl, refl)
 
-  pub track_keeps : (q : Extension) (place : ℕ)
-      → ((told_act k s n (Extend q)).counts ≡ s.counts) × ((told_act k s n (CallBack place)).counts ≡ s.counts) × ((told_act k s n Undo).counts ≡ s.counts)
+  pub track_keeps : (q : Extension) (place : ℕ) → ((told_act k s n (Extend q)).counts ≡ s.counts) × ((told_act k s n (CallBack place)).counts ≡ s.counts)
   unfolding told_act
-  track_keeps q place = (refl, refl, refl)
+  track_keeps q place = (refl, refl)

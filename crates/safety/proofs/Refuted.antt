@@ -15,7 +15,7 @@ use Rattle.motion.specs.Starred.{full_given}
 use Rattle.train.specs.Track.{steps_of}
 use Rattle.safety.specs.History.{done_by, is_accepted, told_act, told_call, told_by, told, rear_of}
 use Rattle.safety.specs.Claim.{Claim}
-use Rattle.safety.specs.Worked.{session_line, loaded_enters, held_count, rear_off_the_line, head_past_end, same_cap_each_cycle, done_too_soon, undone_in_vain, end_too_near, end_off_the_line, overlap_of_two, held_and_moving, braked_and_moving, figures_made_up}
+use Rattle.safety.specs.Worked.{session_line, loaded_enters, held_count, rear_off_the_line, head_past_end, same_cap_each_cycle, done_too_soon, end_too_near, end_off_the_line, overlap_of_two, held_and_moving, braked_and_moving, figures_made_up}
 
 pub counted : held_count (told session_line (loaded_enters ∷ [])).trains ≡ 710
 unfolding ceil_div cycles_to_stand is_accepted told_call told_by told
@@ -38,11 +38,6 @@ same_cap_refuted claim = not_above 14295120000 claim.0.head_within_end
 pub done_refuted : Claim session_line done_too_soon → ⊥
 unfolding Claim ceil_div brake_travel brake_speed next_level drive_travel drive_speed stands braked_cycle first_cycles enough_cycles braked_run total_travel stopping_distance stopping_place done_by is_accepted told_act told_call told_by told
 done_refuted claim = not_above 14295135000 claim.0.head_within_end
-
--- and so does the one that an undoing has, told from the calls and not from its answer
-pub undone_refuted : Claim session_line undone_in_vain → ⊥
-unfolding Claim done_by is_accepted told_act told_call told_by told
-undone_refuted claim = not_above 14295120000 claim.0.head_within_end
 
 pub rear_refuted : Claim session_line rear_off_the_line → ⊥
 unfolding Claim is_accepted told_call told_by told steps_of

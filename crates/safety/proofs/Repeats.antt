@@ -1,5 +1,4 @@
--- Repeats, over every list of deeds: "the repeat of an accepted one in the same stay adds none". An undone number is one that was accepted: what was
--- called since may hold its undoing, and "a repeat of that number still adds nothing" (document 02, (vii)). `step` is what a call comes to by a caller with
+-- Repeats, over every list of deeds: "the repeat of an accepted one in the same stay adds none". `step` is what a call comes to by a caller with
 -- the right; one without it leaves the table too (line/proofs/Rights: call-16).
 -- Assumes nothing.
 use Prim.Native.Nat.{ℕ, ◌≤◌, ◌<◌}
@@ -17,26 +16,72 @@ use Rattle.calls.specs.declared.Act.TheVariants.{Extend}
 use Rattle.calls.specs.declared.Call.TheVariants.{Enter, Own, TakeOff}
 use Rattle.calls.specs.declared.Ask.{Ask}
 use Rattle.calls.specs.declared.Ask.TheVariants.{Open, OnTable}
+use Rattle.calls.specs.declared.Request.{Request}
 use Rattle.calls.specs.declared.Refusal.{Refusal}
 use Rattle.calls.specs.declared.Answer.TheVariants.{Accepted}
 use Rattle.calls.specs.declared.Values.TheVariants.{Extended, Zeros}
 use Rattle.calls.specs.Answers.{numbers_of}
+use Rattle.calls.specs.Requests.{request}
 use Rattle.train.specs.declared.Train.{Train}
+use Rattle.train.specs.Ranges.{WorksWith}
 use Rattle.acts.specs.declared.Verdict.TheVariants.{TurnedDown, Passed}
 use Rattle.acts.specs.Acts.{is_repeat, extended}
 use Rattle.acts.specs.Decide.{decide, verdict}
 use Rattle.acts.proofs.Sentences.{WellFormed, extension_repeated, extension_used, extension_accepted, Leaves, act_leaves, number_onward}
 use Rattle.table.specs.declared.Table.{Table}
 use Rattle.table.specs.Table.{place_of, train_at, limit_at}
-use Rattle.table.proofs.Places.{put_same}
+use Rattle.table.proofs.Places.{found_below, still_found, still_there, put_same}
 use Rattle.table.proofs.Trains.{Sized}
-use Rattle.line.specs.Step.{outcome, open_step}
+use Rattle.line.specs.Decide.{ruling_at}
+use Rattle.line.specs.Step.{outcome, requested, open_step}
 use Rattle.line.proofs.Steps.{step}
 use Rattle.line.proofs.Rules.{own_step}
-use Rattle.line.proofs.Stays.{Holds, Keeps, sized_step, works_step, own_accepted, own_holds}
-use Rattle.safety.specs.History.{Deed, Event, history, after}
+use Rattle.line.proofs.Stays.{Holds, Keeps, still_holds, sized_step, sized_request, works_step, works_request, own_accepted}
+use Rattle.safety.specs.History.{Deed, made, tried, Event, history, after, is_accepted}
 use Rattle.safety.proofs.Calls.{agrees}
-use Rattle.safety.proofs.Lists.{kept_by, KeepsAll, lasts, works_after, Takes, takes, Stays}
+
+-- ---- what stays true over a list of deeds
+
+-- a deed with this answer number keeps it
+abbrev KeepsBy : (Train → Type 0) → ℕ → ℕ → Deed → Type 0
+KeepsBy Q id n (made r) = Keeps Q id n r.ask
+KeepsBy Q id n (tried r) = Unit {0}
+
+-- an event's deed keeps it where a request, if it is one, does
+kept_by : (Q : Train → Type 0) (id : ℕ) (e : Event) → ((r : Request) → e.deed ≡ made r → Keeps Q id e.answer.number r.ask)
+    → KeepsBy Q id e.answer.number e.deed
+kept_by Q id e keeps = go e.deed refl
+  where
+    go : (d : Deed) → e.deed ≡ d → KeepsBy Q id e.answer.number d
+    go (made r) is = keeps r is
+    go (tried r) is = tt
+
+-- each of them keeps it
+abbrev KeepsAll : (Train → Type 0) → ℕ → List Event → Type 0
+KeepsAll Q id [] = Unit {0}
+KeepsAll Q id (e ∷ es) = KeepsBy Q id e.answer.number e.deed × KeepsAll Q id es
+
+lasts : (Q : Train → Type 0) (id : ℕ) (ds : List Deed) (t : Table) → Sized t → Holds Q id t → KeepsAll Q id (history t ds) → Holds Q id (after t ds)
+unfolding history after
+lasts Q id [] t sized h keeps = h
+lasts Q id (made r ∷ ds) t sized h keeps =
+    lasts Q id ds (requested true t r).table (sized_request t sized r) (still_holds Q id t sized h r keeps.0) keeps.1
+lasts Q id (tried r ∷ ds) t sized h keeps = lasts Q id ds t sized h keeps.1
+
+-- ---- the present stay
+
+-- the event is an accepted request that asks a, whoever called
+abbrev pub Takes : Ask → Event → Type 0
+Takes a e = (caller : ℕ) × (e.deed ≡ made (request caller a)) × (is_accepted e ≡ true)
+
+pub takes : (e : Event) (r : Request) (a : Ask) → e.deed ≡ made r → r.ask ≡ a → e.answer.number ≡ 0 → Takes a e
+unfolding is_accepted
+takes e r a is asks zero = (r.caller, is ∙ ap (λ (b : Ask). made (request r.caller b)) asks, eq-eqb _ 0 zero)
+
+-- no event takes the train off
+abbrev pub Stays : ℕ → List Event → Type 0
+Stays id [] = Unit {0}
+Stays id (e ∷ es) = (Takes (OnTable (TakeOff id)) e → ⊥) × Stays id es
 
 -- the number n has been accepted in this stay, at the latest as the last one
 abbrev Used : ℕ → Train → Type 0
@@ -114,6 +159,12 @@ module _ (id : ℕ) (q : Extension) where
     last_all es stays.1 other.1,
   )
 
+works_after : (o : Opening) (ds : List Deed) (t : Table) → WorksWith o t.settings → WorksWith o (after t ds).settings
+unfolding after
+works_after o [] t works = works
+works_after o (made r ∷ ds) t works = works_after o ds (requested true t r).table (works_request o t works r)
+works_after o (tried r ∷ ds) t works = works_after o ds t works
+
 -- ---- over every list of deeds
 
 -- on the line that an accepted opening made, after the calls `before`, the extension q of the train is called and accepted
@@ -133,10 +184,17 @@ module _ (o : Opening) (t : Table) (opened : open_step o ≡ outcome (Accepted Z
 
   last_now : Holds (Last q) id granted
   last_now =
-      own_holds (Last q) then id (Extend q)
-      (λ i found passes.
-      let p = extension_accepted then.settings (limit_at then i) (train_at then i) q passes in
-      (rw p.start p.above, p.number, p.length)) accepted
+      let a = own_accepted then id (Extend q) accepted in
+      let x = train_at then a.place in
+      let y = (ruling_at then (Extend q) a.place).after in
+      let p = extension_accepted then.settings (limit_at then a.place) x q a.passes in
+      let here = still_there then id a.place y a.found in
+      subst (Holds (Last q) id) (sym a.table)
+      (record {
+        place = a.place;
+        found = still_found then a.place y (found_below then id a.place a.found) (act_leaves then.settings (limit_at then a.place) x (Extend q)).id id ∙ a.found;
+        so = subst (Last q) (sym here) (rw p.start p.above, p.number, p.length);
+      })
 
   used_now : Holds (Used q.number) id granted
   used_now =
@@ -150,7 +208,7 @@ module _ (o : Opening) (t : Table) (opened : open_step o ≡ outcome (Accepted Z
     abbrev now : Table
     now = after granted since
 
-    -- the same number, with any length, undone meanwhile or not, leaves the whole table
+    -- the same number, with any length, leaves the whole table
     pub repeat_adds_none : (p : Extension) → p.number ≡ q.number → (step now (Own id (Extend p))).table ≡ now
     repeat_adds_none p same =
         used_leaves now id p
@@ -169,7 +227,7 @@ module _ (o : Opening) (t : Table) (opened : open_step o ≡ outcome (Accepted Z
           length_most = rw end formed.length_most;
         }
 
-    -- as the last accepted one, with its length, undone or not, it is answered with the end of now and 1
+    -- as the last accepted one, with its length, it is answered with the end of now and 1
     pub last_repeated : NoOther id q.number (history granted since) → (i : ℕ) → place_of now id ≡ some i
         → step now (Own id (Extend q)) ≡ outcome (Accepted (Extended (train_at now i).authority.end true)) now
     last_repeated other i found =

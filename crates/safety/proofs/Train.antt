@@ -2,7 +2,7 @@
 -- Assumes nothing.
 use Prim.Native.Nat.{◌≤◌}
 use mathlib.Core.Bool.{true}
-use mathlib.Core.Logic.{by_cases, inl}
+use mathlib.Core.Logic.{by_cases}
 use mathlib.Core.Path.{◌≡◌, refl}
 use native.Mathlib.Decide.{ℕ_discrete}
 use native.Mathlib.Nat.{le_refl, le_trans}
@@ -27,7 +27,7 @@ use Rattle.train.specs.Track.{steps_of}
 use Rattle.train.specs.Report.{reach_of, allowed, motion_after, goal_of, order_after, reported}
 use Rattle.train.proofs.Records.{may_order}
 use Rattle.train.proofs.Track.{InLimit, limit_below}
-use Rattle.train.proofs.Pending.{Aims, Left, settled_aims, settled_left, stopped_past, pending_brakes}
+use Rattle.train.proofs.Pending.{Aims, settled_aims, stopped_past, pending_brakes}
 use Rattle.train.proofs.Checks.{allowed_head, allowed_no_worse}
 
 -- a train that stands under brake, with this authority: no call back is pending
@@ -43,7 +43,6 @@ pub record Guarded (σ : Settings) (limit : Limit) (x : Train) : Type 0 where
   pub aims : Aims (reach_of x) x.authority
   -- at a stand under brake no call back is pending
   pub at_rest : AtRest x x.authority
-  pub left : Left x.authority
   pub within : Within x.figures σ.maxima x.motion x.order
 
 pub guarded_head : (σ : Settings) (limit : Limit) (x : Train) → Guarded σ limit x → x.motion.head ≤ x.authority.end
@@ -60,7 +59,6 @@ guarded_entering σ limit e k sound long limited =
       end_in_limit = limited;
       aims = record { reach = omega arith; goal = le_refl _; short = λ pending. absurd (pending refl) };
       at_rest = λ braked standing. refl;
-      left = inl refl;
       within = within_entering k σ.maxima x.motion refl refl;
     }
 
@@ -89,7 +87,6 @@ module _ (σ : Settings) (limit : Limit) (x : Train) (g : Guarded σ limit x) wh
         end_in_limit = limit_below limit nearer g.end_in_limit;
         aims = aims;
         at_rest = rests;
-        left = settled_left x.authority _ _ _ g.left;
         within = within_report x.figures σ.maxima x.motion x.order m (order_after σ x m) (goal_of x) g.within (allowed_no_worse x r e) (may_order σ x m);
       }
     where
@@ -100,6 +97,6 @@ module _ (σ : Settings) (limit : Limit) (x : Train) (g : Guarded σ limit x) wh
           (λ pending. let moving = (pending_brakes σ x (motion_after x r) g.figures pending).1 in absurd (omega arith))
 
   -- the other acts leave motion and order as they are
-  pub guarded_still : (a : Authority) (s : Marks) → InLimit limit a.end → Aims (reach_of x) a → AtRest x a → Left a → Guarded σ limit (same x x.motion x.order a s)
-  guarded_still a s limited aims rests left =
-      record { figures = g.figures; rear_on_line = g.rear_on_line; end_in_limit = limited; aims = aims; at_rest = rests; left = left; within = g.within }
+  pub guarded_still : (a : Authority) (s : Marks) → InLimit limit a.end → Aims (reach_of x) a → AtRest x a → Guarded σ limit (same x x.motion x.order a s)
+  guarded_still a s limited aims rests =
+      record { figures = g.figures; rear_on_line = g.rear_on_line; end_in_limit = limited; aims = aims; at_rest = rests; within = g.within }

@@ -1,4 +1,4 @@
--- Document 01, "Authorities", and document 02, (ii), (vi) and (vii): the words of demand 3. They come from the opening, the calls and their answers alone.
+-- Document 01, "Authorities", and document 02, (ii) and (vi): the words of demand 3. They come from the opening, the calls and their answers alone.
 use Rattle.std.specs.Prelude.{ℕ, suc, ◌+◌, ◌-◌, Bool, true, false, cond, ◌&&◌, leb, ltb, eqb}
 use Rattle.std.proofs.Math.Option
 use Rattle.std.proofs.Math.Option.{Option, none, some, get_or}
@@ -13,7 +13,7 @@ use Rattle.calls.specs.declared.Entry.{Entry}
 use Rattle.calls.specs.declared.Reading.{Reading}
 use Rattle.calls.specs.declared.Extension.{Extension}
 use Rattle.calls.specs.declared.Act.{Act}
-use Rattle.calls.specs.declared.Act.TheVariants.{Report, Extend, CallBack, Hold, Lift, Undo}
+use Rattle.calls.specs.declared.Act.TheVariants.{Report, Extend, CallBack, Hold, Lift}
 use Rattle.calls.specs.declared.Call.TheVariants.{Enter, Own, TakeOff}
 use Rattle.calls.specs.declared.Ask.{Ask}
 use Rattle.calls.specs.declared.Ask.TheVariants.{Open, OnTable}
@@ -88,10 +88,10 @@ pub record Told : Type 0 where
 abbrev pub state_of : Reading → ℕ → Order → Authority → Counts → State
 state_of r l o a n = record { last = r; level = l; order = o; authority = a; counts = n }
 
--- the track that a train is lent, up to the end e, with no call back pending and nothing to undo: s is the starting number of its stay, n the
--- last accepted one, and l its length
+-- the track that a train is lent, up to the end e, with no call back pending: s is the starting number of its stay, n the last accepted one,
+-- and l its length
 abbrev pub lent : ℕ → ℕ → ℕ → ℕ → Authority
-lent e s n l = record { end = e; goal = e; start = s; number = n; length = l; undoable = 0 }
+lent e s n l = record { end = e; goal = e; start = s; number = n; length = l }
 
 -- Enter is answered with B and j. The train stands at its head under full brake and has no other track. Nothing is counted.
 abbrev pub told_entering : Entry → Numbers → Told
@@ -115,11 +115,9 @@ braked_after true o n = none
 braked_after false Brake n = some (suc (get_or n 0))
 braked_after false (Drive c) n = Option.map suc n
 
--- a new number adds its length, which may be undone, and the last one again adds none
+-- a new number adds its length, and the last one again adds none
 abbrev pub longer : Authority → Extension → Authority
-longer a q =
-    let e = a.end + q.length in
-    cond (eqb q.number a.number) a (record { end = e; goal = e; start = a.start; number = q.number; length = q.length; undoable = q.length })
+longer a q = cond (eqb q.number a.number) a (lent (a.end + q.length) a.start q.number q.length)
 
 -- the same up to another end
 abbrev pub up_to : ℕ → Authority → Authority
@@ -127,7 +125,7 @@ up_to p a = lent p a.start a.number a.length
 
 -- a call back moves the end to a place that the reach r is not past; to any other place it is pending, and the end stays
 abbrev pub nearer : ℕ → ℕ → Authority → Authority
-nearer r p a = cond (leb r p) (up_to p a) (record { end = a.end; goal = p; start = a.start; number = a.number; length = a.length; undoable = 0 })
+nearer r p a = cond (leb r p) (up_to p a) (record { end = a.end; goal = p; start = a.start; number = a.number; length = a.length })
 
 -- A pending call back is done by a report whose answer gives a reach r at or before its place, or by one with which the train stands past it:
 -- the end moves to the place, or to the head.
@@ -148,8 +146,6 @@ told_act k s n (Report r) =
 told_act k s n (Extend q) = still s (longer s.authority q) s.counts
 told_act k s n (CallBack p) =
     still s (nearer (reach k (record { head = s.last.head; speed = s.last.speed; level = s.level }) s.order) p s.authority) s.counts
--- the last extension is taken off, by its length and whatever the answer
-told_act k s n Undo = still s (up_to (s.authority.end - s.authority.undoable) s.authority) s.counts
 -- held already, it goes on counting
 told_act k s n Hold = still s s.authority (record { held = some (get_or s.counts.held 0); braked = s.counts.braked })
 told_act k s n Lift = still s s.authority (record { held = none; braked = s.counts.braked })

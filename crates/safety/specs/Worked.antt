@@ -3,7 +3,7 @@
 use Rattle.std.specs.Prelude.{ℕ, List, [], ◌∷◌, map, replicate}
 use Rattle.std.proofs.Math.Option.{Option, none, some}
 use Rattle.calls.specs.declared.Opening.{Opening}
-use Rattle.calls.specs.declared.Act.TheVariants.{Report, Extend, CallBack, Hold, Lift, Undo}
+use Rattle.calls.specs.declared.Act.TheVariants.{Report, Extend, CallBack, Hold, Lift}
 use Rattle.calls.specs.declared.Call.TheVariants.{Enter, Own, TakeOff}
 use Rattle.calls.specs.declared.Ask.TheVariants.{Open, OnTable}
 use Rattle.calls.specs.declared.Request.{Request}
@@ -21,12 +21,9 @@ enter id h l load s = request 70000 (OnTable (Enter (record { id = id; head = h;
 abbrev pub take_off : ℕ → Request
 take_off id = request 70000 (OnTable (TakeOff id))
 
--- a train, for itself: report, undo, extend
+-- a train, for itself: report, extend
 abbrev pub report : ℕ → ℕ → ℕ → Request
 report id h v = request id (OnTable (Own id (Report (record { head = h; speed = v }))))
-
-abbrev pub undo : ℕ → Request
-undo id = request id (OnTable (Own id Undo))
 
 abbrev pub extend : ℕ → ℕ → ℕ → Request
 extend id n l = request id (OnTable (Own id (Extend (record { number = n; length = l }))))
@@ -144,8 +141,6 @@ pub record Words : Type 0 where
   pub end : ℕ
   -- the place that a pending call back wants, or the end
   pub goal : ℕ
-  -- what is left to undo
-  pub undoable : ℕ
   pub held : Option ℕ
   pub braked : Option ℕ
 
@@ -159,7 +154,6 @@ words_of x =
       rear = rear_of x;
       end = x.now.authority.end;
       goal = x.now.authority.goal;
-      undoable = x.now.authority.undoable;
       held = x.now.counts.held;
       braked = x.now.counts.braked;
     }
@@ -170,12 +164,12 @@ words_after o ds = map words_of (told o (history (open_step o).table ds)).trains
 -- a train that has entered and is held
 abbrev pub tried_words : List Words
 tried_words =
-    record { id = 7; start = 0; head = 14295120000; speed = 0; rear = 0; end = 14295120000; goal = 14295120000; undoable = 0; held = some 0; braked = none } ∷ []
+    record { id = 7; start = 0; head = 14295120000; speed = 0; rear = 0; end = 14295120000; goal = 14295120000; held = some 0; braked = none } ∷ []
 
 abbrev pub worked_words : List Words
 worked_words =
-    record { id = 7; start = 5; head = 24295131000; speed = 3000; rear = 10000011000; end = 25295120001; goal = 25295120001; undoable = 1; held = none; braked = some 2 }
-    ∷ record { id = 9; start = 0; head = 1000003726; speed = 0; rear = 390403726; end = 1100000500; goal = 1100000500; undoable = 500; held = some 2; braked = none }
+    record { id = 7; start = 5; head = 24295131000; speed = 3000; rear = 10000011000; end = 25295120001; goal = 25295120001; held = none; braked = some 2 }
+    ∷ record { id = 9; start = 0; head = 1000003726; speed = 0; rear = 390403726; end = 1100000500; goal = 1100000500; held = some 2; braked = none }
     ∷ []
 
 -- ---- pending call backs
@@ -223,7 +217,7 @@ replaced_answers =
 
 abbrev pub replaced_words : List Words
 replaced_words =
-    record { id = 7; start = 0; head = 14295120010; speed = 10; rear = 10; end = 14295121000; goal = 14295120030; undoable = 0; held = none; braked = some 1 } ∷ []
+    record { id = 7; start = 0; head = 14295120010; speed = 10; rear = 10; end = 14295121000; goal = 14295120030; held = none; braked = some 1 } ∷ []
 
 -- a little slower, it would stop short of the place: the end moves there, and one step more is lent
 abbrev pub there_deeds : List Deed
@@ -231,7 +225,7 @@ there_deeds = made (report 7 14295120020 9) ∷ made (extend 7 2 1) ∷ []
 
 abbrev pub there_words : List Words
 there_words =
-    record { id = 7; start = 0; head = 14295120020; speed = 9; rear = 20; end = 14295120031; goal = 14295120031; undoable = 1; held = none; braked = some 2 } ∷ []
+    record { id = 7; start = 0; head = 14295120020; speed = 9; rear = 20; end = 14295120031; goal = 14295120031; held = none; braked = some 2 } ∷ []
 
 -- The worst case on, to a stand past the place. That report is answered against the place still, and the end becomes the head; at the next one the
 -- train stands at its end.
@@ -243,123 +237,7 @@ past_answers = numbers 0 2 0 14295120031 ∷ numbers 0 2 0 14295120031 ∷ numbe
 
 abbrev pub past_words : List Words
 past_words =
-    record { id = 7; start = 0; head = 14295120031; speed = 0; rear = 31; end = 14295120031; goal = 14295120031; undoable = 0; held = none; braked = none } ∷ []
-
--- ---- undoing
-
--- Nothing of an earlier stay is undone, and before an extension it is 18. Undone, an extension is not undone again: its repeat is answered with the
--- end of now and revives nothing, and with another length it is 12. A preview undoes nothing; the dispatcher and another train have no right, and a
--- train off the line is 8. A held train undoes too, and not the extension before it. With a reach of 31 steps, it cannot stop by the end before 31
--- were lent: 19.
-abbrev pub undone_deeds : List Deed
-undone_deeds =
-    made (enter 7 14295120000 2345 1 0)
-    ∷ made (extend 7 1 1000)
-    ∷ made (take_off 7)
-    ∷ made (enter 7 14295120000 2345 1 0)
-    ∷ made (undo 7)
-    ∷ made (extend 7 1 1000)
-    ∷ made (extend 7 1 1000)
-    ∷ made (undo 7)
-    ∷ made (undo 7)
-    ∷ made (extend 7 1 1000)
-    ∷ made (undo 7)
-    ∷ made (extend 7 1 1001)
-    ∷ made (extend 7 2 500)
-    ∷ tried (undo 7)
-    ∷ made (request 0 (OnTable (Own 7 Undo)))
-    ∷ made (request 8 (OnTable (Own 7 Undo)))
-    ∷ made (undo 8)
-    ∷ made (extend 7 3 31)
-    ∷ made (hold 7)
-    ∷ made (undo 7)
-    ∷ made (undo 7)
-    ∷ made (lift 7)
-    ∷ made (call_back 7 14295120000)
-    ∷ made (extend 7 4 31)
-    ∷ made (report 7 14295120000 0)
-    ∷ made (undo 7)
-    ∷ []
-
-abbrev pub undone_answers : List Numbers
-undone_answers =
-    numbers 0 133303 263 14295120000
-    ∷ numbers 0 14295121000 0 0
-    ∷ numbers 0 0 0 0
-    ∷ numbers 0 133303 263 14295120000
-    ∷ numbers 18 0 0 0
-    ∷ numbers 0 14295121000 0 0
-    ∷ numbers 0 14295121000 1 0
-    ∷ numbers 0 14295120000 0 0
-    ∷ numbers 18 0 0 0
-    ∷ numbers 0 14295120000 1 0
-    ∷ numbers 18 0 0 0
-    ∷ numbers 12 0 0 0
-    ∷ numbers 0 14295120500 0 0
-    ∷ numbers 0 14295120000 0 0
-    ∷ numbers 16 0 0 0
-    ∷ numbers 16 0 0 0
-    ∷ numbers 8 0 0 0
-    ∷ numbers 0 14295120531 0 0
-    ∷ numbers 0 0 0 0
-    ∷ numbers 0 14295120500 0 0
-    ∷ numbers 18 0 0 0
-    ∷ numbers 0 0 0 0
-    ∷ numbers 0 0 0 0
-    ∷ numbers 0 14295120031 0 0
-    ∷ numbers 0 1 10 14295120031
-    ∷ numbers 19 0 0 0
-    ∷ []
-
-abbrev pub undone_words : List Words
-undone_words =
-    record { id = 7; start = 0; head = 14295120000; speed = 0; rear = 0; end = 14295120031; goal = 14295120031; undoable = 31; held = none; braked = none } ∷ []
-
--- A call back to the end itself leaves nothing to undo, and a refused one leaves what there was. Braked while it moves, the train hands one step back;
--- then all that its reach leaves it, to the step. While a call back is pending, and once it is done, it is 18.
-abbrev pub moving_deeds : List Deed
-moving_deeds =
-    made (extend 7 5 9)
-    ∷ made (call_back 7 14295120040)
-    ∷ made (undo 7)
-    ∷ made (extend 7 6 1)
-    ∷ made (call_back 7 14295120042)
-    ∷ made (report 7 14295120010 10)
-    ∷ made (undo 7)
-    ∷ made (call_back 7 14295120031)
-    ∷ made (extend 7 7 9)
-    ∷ made (undo 7)
-    ∷ made (extend 7 8 9)
-    ∷ made (call_back 7 14295120030)
-    ∷ made (undo 7)
-    ∷ made (report 7 14295120020 9)
-    ∷ made (undo 7)
-    ∷ made (extend 7 9 5)
-    ∷ []
-
-abbrev pub moving_answers : List Numbers
-moving_answers =
-    numbers 0 14295120040 0 0
-    ∷ numbers 0 0 0 0
-    ∷ numbers 18 0 0 0
-    ∷ numbers 0 14295120041 0 0
-    ∷ numbers 14 0 0 0
-    ∷ numbers 0 2 0 14295120031
-    ∷ numbers 0 14295120040 0 0
-    ∷ numbers 0 0 0 0
-    ∷ numbers 0 14295120040 0 0
-    ∷ numbers 0 14295120031 0 0
-    ∷ numbers 0 14295120040 0 0
-    ∷ numbers 0 0 0 0
-    ∷ numbers 18 0 0 0
-    ∷ numbers 0 2 0 14295120021
-    ∷ numbers 18 0 0 0
-    ∷ numbers 0 14295120035 0 0
-    ∷ []
-
-abbrev pub moving_words : List Words
-moving_words =
-    record { id = 7; start = 0; head = 14295120020; speed = 9; rear = 20; end = 14295120035; goal = 14295120035; undoable = 5; held = none; braked = some 2 } ∷ []
+    record { id = 7; start = 0; head = 14295120031; speed = 0; rear = 31; end = 14295120031; goal = 14295120031; held = none; braked = none } ∷ []
 
 -- ---- the count of document 01's example, and histories that break the claim
 
@@ -397,15 +275,6 @@ done_too_soon =
     ∷ said (call_back 7 14295135000) 0 0 0
     ∷ said (report 7 14295122534 2534) 2 0 14295135000
     ∷ said (report 7 14295135001 0) 2 0 14295135001
-    ∷ []
-
--- an undoing whose answer has the longer end: the end is the shorter one, whatever is answered, and the train is past it
-abbrev pub undone_in_vain : List Event
-undone_in_vain =
-    loaded_enters
-    ∷ said (extend 7 1 20000) 14295140000 0 0
-    ∷ said (undo 7) 14295140000 0 0
-    ∷ said (report 7 14295120001 0) 2 0 14295120001
     ∷ []
 
 -- the first train, with its rear at 20,000,000,000

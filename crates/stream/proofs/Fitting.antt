@@ -28,7 +28,7 @@ use Rattle.calls.specs.declared.Refusal.TheVariants.{BadSetting, NoRight}
 use Rattle.calls.specs.declared.Answer.{Answer}
 use Rattle.calls.specs.declared.Answer.TheVariants.{Accepted, Refused}
 use Rattle.calls.specs.declared.Values.{Values}
-use Rattle.calls.specs.declared.Values.TheVariants.{Entered, Ordered, Extended, Single, Zeros}
+use Rattle.calls.specs.declared.Values.TheVariants.{Entered, Ordered, Extended, Zeros}
 use Rattle.calls.specs.declared.Numbers.{Numbers}
 use Rattle.calls.specs.Answers.{numbers_of}
 use Rattle.calls.specs.Checks.{first_of}
@@ -99,7 +99,6 @@ module _ (o : Opening) (t : Table) (opened : open_step o ≡ outcome (Accepted Z
   within_shown i h (Entered full growth e) w = absurd w
   within_shown i h (Ordered o r) w = ordered_shown o r (le_trans w.0 (left_ranges _ t opened ds).traction) (limit_fits i h r w.1)
   within_shown i h (Extended e repeat) w = extended_shown e repeat (limit_fits i h e w)
-  within_shown i h (Single n) w = let fits = limit_fits i h n w in omega arith
   within_shown i h Zeros w = omega arith
 
   act_shown : (id i : ℕ) (a : Act) → place_of left id ≡ some i → first_of (ruling_at left a i).checks ≡ none → Shown (Accepted (ruling_at left a i).gives)

@@ -84,15 +84,6 @@ still_there t id i y found =
     let size = length-take t.count t.trains in
     get_or-set_same t.trains i y blank_train (omega arith)
 
--- one record put after another at the same place: the last one stands
-set_again : (xs : List Train) (i : ℕ) (x y : Train) → set (set xs i x) i y ≡ set xs i y
-set_again [] i x y = refl
-set_again (z ∷ zs) zero x y = refl
-set_again (z ∷ zs) (suc i) x y = ap (λ (l : List Train). z ∷ l) (set_again zs i x y)
-
-pub put_again : (t : Table) (i : ℕ) (x y : Train) → changed (changed t (Put i x)) (Put i y) ≡ changed t (Put i y)
-put_again t i x y = rw (set_again t.trains i x y)
-
 -- the record that stands at a place, put there again
 pub put_same : (t : Table) (i : ℕ) (x : Train) → x ≡ train_at t i → changed t (Put i x) ≡ t
 put_same t i x here = rw (ap (set t.trains i) here ∙ set-get_or t.trains i blank_train)

@@ -36,7 +36,7 @@ zero_record =
       figures = record { full = 0; growth = 0 };
       motion = record { head = 0; speed = 0; level = 0 };
       order = Drive 0;
-      authority = record { end = 0; goal = 0; start = 0; number = 0; length = 0; undoable = 0 };
+      authority = record { end = 0; goal = 0; start = 0; number = 0; length = 0 };
       marks = record { held = false; penalty = false };
     }
 

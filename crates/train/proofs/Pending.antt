@@ -1,5 +1,5 @@
 -- Document 02, (vi), said a second time of one train: what a pending call back is, and what each report makes of it, in places and in the
--- fields of the authority, where the definition tests and chooses. With it, what a report leaves to undo (vii). A wrong definition is refused here, whatever the code.
+-- fields of the authority, where the definition tests and chooses. A wrong definition is refused here, whatever the code.
 -- Assumes nothing.
 use Prim.Native.Nat.{ℕ, ◌≤◌, ◌<◌}
 use mathlib.Core.Bool.{Bool, true, false}
@@ -27,7 +27,7 @@ use Rattle.train.proofs.Records.{may_order}
 use Rattle.train.proofs.Sentences.{moves_exactly}
 
 -- a wanted place, and nothing else
-pub place_wanted : (a : Authority) (place : ℕ) → wanting a place ≡ record { end = a.end; goal = place; start = a.start; number = a.number; length = a.length; undoable = 0 }
+pub place_wanted : (a : Authority) (place : ℕ) → wanting a place ≡ record { end = a.end; goal = place; start = a.start; number = a.number; length = a.length }
 place_wanted a place = refl
 
 -- a call back is pending where orders aim at another place than the end
@@ -46,10 +46,6 @@ pub record Aims (r : ℕ) (a : Authority) : Type 0 where
   pub goal : a.goal ≤ a.end
   pub short : (a.goal ≡ a.end → ⊥) → a.goal < r
 
--- what is left to undo is nothing, or the length of the last accepted extension, and that with no call back pending
-abbrev pub Left : Authority → Type 0
-Left a = (a.undoable ≡ 0) ⊎ ((a.undoable ≡ a.length) × (a.goal ≡ a.end))
-
 -- ---- after a report's order with reach r
 
 module _ (a : Authority) (standing : Bool) (head r : ℕ) where
@@ -61,14 +57,14 @@ module _ (a : Authority) (standing : Bool) (head r : ℕ) where
   module _ (pending : a.goal ≡ a.end → ⊥) where
     -- "At the first accepted report after whose order the reach is at or before that place, the end moves there."
     pub settled_there : r ≤ a.goal
-        → settled a standing head r ≡ record { end = a.goal; goal = a.goal; start = a.start; number = a.number; length = a.length; undoable = 0 }
+        → settled a standing head r ≡ record { end = a.goal; goal = a.goal; start = a.start; number = a.number; length = a.length }
     unfolding settled
     settled_there near = rw ((pending_exactly a).1 pending, le-leb r a.goal near)
 
     module _ (far : a.goal < r) where
       -- "If at an accepted report before that the train stands with its head past that place, the end becomes the head and the call back is done."
       pub settled_past : standing ≡ true → a.goal < head
-          → settled a standing head r ≡ record { end = head; goal = head; start = a.start; number = a.number; length = a.length; undoable = 0 }
+          → settled a standing head r ≡ record { end = head; goal = head; start = a.start; number = a.number; length = a.length }
       unfolding settled
       settled_past stood past = rw ((pending_exactly a).1 pending, lt-leb r a.goal far, stood, lt-ltb a.goal head past)
 
@@ -114,20 +110,6 @@ module _ (a : Authority) (standing : Bool) (head r : ℕ) where
       go (there pending near) = rw (settled_there pending near) (record { start = refl; number = refl; length = refl })
       go (past pending far stood beyond) = rw (settled_past pending far stood beyond) (record { start = refl; number = refl; length = refl })
       go (waits pending far still) = rw (settled_waits pending far still) (record { start = refl; number = refl; length = refl })
-
-  -- and no report brings anything back that might be undone
-  pub settled_undone : a.undoable ≡ 0 → (settled a standing head r).undoable ≡ 0
-  settled_undone nothing = go settles
-    where
-      go : Settles → (settled a standing head r).undoable ≡ 0
-      go (none same) = rw (settled_none same) nothing
-      go (there pending near) = rw (settled_there pending near)
-      go (past pending far stood beyond) = rw (settled_past pending far stood beyond)
-      go (waits pending far still) = rw (settled_waits pending far still) nothing
-
-  pub settled_left : Left a → Left (settled a standing head r)
-  settled_left (inl nothing) = inl (settled_undone nothing)
-  settled_left (inr (last, free)) = rw (settled_none free) (inr (last, free))
 
   -- Where the reach is within the end, and at the head of a train that stands past the wanted place: the end does not move forward.
   pub settled_aims : a.goal ≤ a.end → head ≤ r → r ≤ a.end → (standing ≡ true → a.goal < head → r ≤ head)

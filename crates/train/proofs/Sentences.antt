@@ -78,11 +78,11 @@ limit_behind_lem σ a place = (in_behind σ a place, behind_in σ a place)
 -- ---- the authority
 
 -- "end = head ... and a starting request number for this stay"
-pub fresh_authority_lem : (h s : ℕ) → fresh_authority h s ≡ record { end = h; goal = h; start = s; number = s; length = 0; undoable = 0 }
+pub fresh_authority_lem : (h s : ℕ) → fresh_authority h s ≡ record { end = h; goal = h; start = s; number = s; length = 0 }
 fresh_authority_lem h s = refl
 
 -- another end, where orders aim too, and nothing else
-pub another_end : (a : Authority) (place : ℕ) → ending_at a place ≡ record { end = place; goal = place; start = a.start; number = a.number; length = a.length; undoable = 0 }
+pub another_end : (a : Authority) (place : ℕ) → ending_at a place ≡ record { end = place; goal = place; start = a.start; number = a.number; length = a.length }
 another_end a place = refl
 
 -- ---- the record
@@ -95,7 +95,7 @@ pub entered : (e : Entry) (k : Figures) → entering e k
       figures = k;
       motion = record { head = e.head; speed = 0; level = k.full };
       order = Brake;
-      authority = record { end = e.head; goal = e.head; start = e.start; number = e.start; length = 0; undoable = 0 };
+      authority = record { end = e.head; goal = e.head; start = e.start; number = e.start; length = 0 };
       marks = record { held = false; penalty = false };
     }
 entered e k = refl

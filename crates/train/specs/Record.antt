@@ -1,4 +1,4 @@
--- Document 01, "Orders" and "Authorities", and document 02, (ii), (vi) and (vii): a train record, in parts. A part that a call sets has a definition for its value on entering.
+-- Document 01, "Orders" and "Authorities", and document 02, (ii) and (vi): a train record, in parts. A part that a call sets has a definition for its value on entering.
 use Rattle.std.specs.Prelude.{ℕ, Bool, false, not, eqb}
 use Rattle.brake.specs.declared.Figures.{Figures}
 use Rattle.brake.specs.declared.FiguresFound.{FiguresFound}
@@ -19,10 +19,9 @@ train_of id l k m o a ms = record { id = id; length = l; figures = k; motion = m
 abbrev pub figures_for : Settings → Entry → FiguresFound
 figures_for σ e = figures_of e.load e.length
 
--- An authority up to the end e, in a stay with the starting number s: n is the last accepted number, and l its length. No call back is pending,
--- and nothing is left to undo.
+-- an authority up to the end e, in a stay with the starting number s: n is the last accepted number, and l its length; no call back is pending
 abbrev pub authority_to : ℕ → ℕ → ℕ → ℕ → Authority
-authority_to e s n l = record { end = e; goal = e; start = s; number = n; length = l; undoable = 0 }
+authority_to e s n l = record { end = e; goal = e; start = s; number = n; length = l }
 
 -- Enter: end = head, and a starting request number for this stay; no length has been asked for
 abbrev pub fresh_authority : ℕ → ℕ → Authority
@@ -32,9 +31,9 @@ fresh_authority h s = authority_to h s s 0
 abbrev pub ending_at : Authority → ℕ → Authority
 ending_at a place = authority_to place a.start a.number a.length
 
--- the same with a pending call back that wants this place: the end stays for now, and nothing is left to undo
+-- the same with a pending call back that wants this place: the end stays for now
 abbrev pub wanting : Authority → ℕ → Authority
-wanting a place = record { end = a.end; goal = place; start = a.start; number = a.number; length = a.length; undoable = 0 }
+wanting a place = record { end = a.end; goal = place; start = a.start; number = a.number; length = a.length }
 
 -- a call back is pending: orders aim at another place than the end
 unfoldable pub is_pending : Authority → Bool

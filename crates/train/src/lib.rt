@@ -13,8 +13,7 @@ pub struct Settings {
 
 // The stretch of track that a train is lent. The end is the end of authority. The goal is the place that orders are worked out against: the
 // place that a pending call back wants, or the end where none is pending. The number is the last accepted request number, and length is
-// the one that it asked for; before the first one they are the starting number and 0. What is undoable is that length, as long as the extension
-// may be handed back, and 0 where nothing is left to undo.
+// the one that it asked for; before the first one they are the starting number and 0.
 #[derive(Drop)]
 pub struct Authority {
     pub end: u64,
@@ -22,7 +21,6 @@ pub struct Authority {
     pub start: u64,
     pub number: u64,
     pub length: u64,
-    pub undoable: u64,
 }
 
 // What calls have marked a train with: a hold, and a penalty brake, which stays on until the train stands.

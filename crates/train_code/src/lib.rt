@@ -102,7 +102,7 @@ pub fn figures_for(s: Settings, e: Entry) -> FiguresFound
     brake::figures_of(e.load, e.length)
 }
 
-// Every authority with no call back pending is made here: orders are worked out against its end. Nothing is left to undo.
+// Every authority with no call back pending is made here: orders are worked out against its end.
 pub fn authority_to(end: u64, start: u64, number: u64, length: u64) -> Authority
     ensures { result ≡ authority_to end start number length }
 {
@@ -112,7 +112,6 @@ pub fn authority_to(end: u64, start: u64, number: u64, length: u64) -> Authority
         start,
         number,
         length,
-        undoable: 0,
     }
 }
 
@@ -130,13 +129,12 @@ pub fn ending_at(a: Authority, place: u64) -> Authority
     authority_to(place, a.start, a.number, a.length)
 }
 
-// A pending call back: the place is wanted, and the end stays for now. Nothing is left to undo, as after any call back.
+// A pending call back: the place is wanted, and the end stays for now.
 pub fn want(a: Authority, place: u64) -> Authority
     ensures { result ≡ wanting a place }
 {
     let mut b = a;
     b.goal = place;
-    b.undoable = 0;
     b
 }
 

@@ -173,9 +173,9 @@ first_part =
 abbrev pub after_first : Session
 after_first =
     opened
-    (train_of 65535 1 (record { full = 87021; growth = 690 }) (record { head = 20006262050; speed = 500000; level = 690 }) Brake (record { end = 90031143802; goal = 90031143802; start = 10; number = 15; length = 70000000000; undoable = 70000000000 }) (record { held = false; penalty = true })
-    ∷ train_of 7 2345 (record { full = 133303; growth = 263 }) (record { head = 19893904000; speed = 0; level = 133303 }) Brake (record { end = 19893904000; goal = 19893904000; start = 0; number = 0; length = 0; undoable = 0 }) (record { held = false; penalty = false })
-    ∷ train_of 300 5 (record { full = 162039; growth = 1286 }) (record { head = 5398784000; speed = 0; level = 162039 }) Brake (record { end = 5398784000; goal = 5398784000; start = 4294967294; number = 4294967294; length = 0; undoable = 0 }) (record { held = false; penalty = false })
+    (train_of 65535 1 (record { full = 87021; growth = 690 }) (record { head = 20006262050; speed = 500000; level = 690 }) Brake (record { end = 90031143802; goal = 90031143802; start = 10; number = 15; length = 70000000000 }) (record { held = false; penalty = true })
+    ∷ train_of 7 2345 (record { full = 133303; growth = 263 }) (record { head = 19893904000; speed = 0; level = 133303 }) Brake (record { end = 19893904000; goal = 19893904000; start = 0; number = 0; length = 0 }) (record { held = false; penalty = false })
+    ∷ train_of 300 5 (record { full = 162039; growth = 1286 }) (record { head = 5398784000; speed = 0; level = 162039 }) Brake (record { end = 5398784000; goal = 5398784000; start = 4294967294; number = 4294967294; length = 0 }) (record { held = false; penalty = false })
     ∷ [])
 
 -- ---- second part: up to the speed ceiling
@@ -247,9 +247,9 @@ second_part =
 abbrev pub after_second : Session
 after_second =
     opened
-    (train_of 65535 1 (record { full = 87021; growth = 690 }) (record { head = 20333152227; speed = 5693627; level = 0 }) (Drive 0) (record { end = 90031143802; goal = 90031143802; start = 10; number = 15; length = 70000000000; undoable = 70000000000 }) (record { held = false; penalty = false })
-    ∷ train_of 7 2345 (record { full = 133303; growth = 263 }) (record { head = 19893904000; speed = 0; level = 133303 }) Brake (record { end = 19893904000; goal = 19893904000; start = 0; number = 0; length = 0; undoable = 0 }) (record { held = false; penalty = false })
-    ∷ train_of 300 5 (record { full = 162039; growth = 1286 }) (record { head = 5398784000; speed = 0; level = 162039 }) Brake (record { end = 5398784000; goal = 5398784000; start = 4294967294; number = 4294967294; length = 0; undoable = 0 }) (record { held = false; penalty = false })
+    (train_of 65535 1 (record { full = 87021; growth = 690 }) (record { head = 20333152227; speed = 5693627; level = 0 }) (Drive 0) (record { end = 90031143802; goal = 90031143802; start = 10; number = 15; length = 70000000000 }) (record { held = false; penalty = false })
+    ∷ train_of 7 2345 (record { full = 133303; growth = 263 }) (record { head = 19893904000; speed = 0; level = 133303 }) Brake (record { end = 19893904000; goal = 19893904000; start = 0; number = 0; length = 0 }) (record { held = false; penalty = false })
+    ∷ train_of 300 5 (record { full = 162039; growth = 1286 }) (record { head = 5398784000; speed = 0; level = 162039 }) Brake (record { end = 5398784000; goal = 5398784000; start = 4294967294; number = 4294967294; length = 0 }) (record { held = false; penalty = false })
     ∷ [])
 
 -- ---- third part: down to a stand
@@ -412,9 +412,9 @@ third_part =
 abbrev pub after_third : Session
 after_third =
     opened
-    (train_of 65535 1 (record { full = 87021; growth = 690 }) (record { head = 21325486228; speed = 0; level = 87021 }) Brake (record { end = 21345486228; goal = 21345486228; start = 10; number = 17; length = 20000000; undoable = 20000000 }) (record { held = true; penalty = false })
-    ∷ train_of 7 2345 (record { full = 133303; growth = 263 }) (record { head = 19893904000; speed = 0; level = 133303 }) Brake (record { end = 19893904000; goal = 19893904000; start = 0; number = 0; length = 0; undoable = 0 }) (record { held = false; penalty = false })
-    ∷ train_of 300 5 (record { full = 162039; growth = 1286 }) (record { head = 5398784000; speed = 0; level = 162039 }) Brake (record { end = 5398784000; goal = 5398784000; start = 4294967294; number = 4294967294; length = 0; undoable = 0 }) (record { held = false; penalty = false })
+    (train_of 65535 1 (record { full = 87021; growth = 690 }) (record { head = 21325486228; speed = 0; level = 87021 }) Brake (record { end = 21345486228; goal = 21345486228; start = 10; number = 17; length = 20000000 }) (record { held = true; penalty = false })
+    ∷ train_of 7 2345 (record { full = 133303; growth = 263 }) (record { head = 19893904000; speed = 0; level = 133303 }) Brake (record { end = 19893904000; goal = 19893904000; start = 0; number = 0; length = 0 }) (record { held = false; penalty = false })
+    ∷ train_of 300 5 (record { full = 162039; growth = 1286 }) (record { head = 5398784000; speed = 0; level = 162039 }) Brake (record { end = 5398784000; goal = 5398784000; start = 4294967294; number = 4294967294; length = 0 }) (record { held = false; penalty = false })
     ∷ [])
 
 -- ---- fourth part: the trains behind, 32 of them, and the first one taken off

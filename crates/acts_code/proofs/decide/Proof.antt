@@ -22,9 +22,6 @@ returns-5 : tie.Need-returns-5
 unfolding first_of
 returns-5 c = rw (c.before.enum-told2.given.1, c.with-held2.ensures)
 
-returns-6 : tie.Need-returns-6
-returns-6 c = rw c.before.enum-told3.given.1 c.undo.ensures
-
 pub decide_spec : {M : Type 1} → statement M
 decide_spec =
     tie.close
@@ -39,11 +36,8 @@ decide_spec =
     (λ c κs. search rules)
     (λ c. search rules)
     (λ c κs. search rules)
-    (λ c. search rules)
-    (λ c κs. search rules)
     returns
     returns-2
     returns-3
     returns-4
-    returns-5
-    returns-6)
+    returns-5)

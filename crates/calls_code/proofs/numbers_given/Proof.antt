@@ -22,10 +22,7 @@ returns-3 : tie.Need-returns-3
 returns-3 c = rw (c.before.v3.given.1, flag _)
 
 returns-4 : tie.Need-returns-4
-returns-4 c = rw c.before.v4.given.1
-
-returns-5 : tie.Need-returns-5
-returns-5 c = rw c.enum_told.given.1
+returns-4 c = rw c.enum_told.given.1
 
 pub numbers_given_spec : {M : Type 1} → statement M
 numbers_given_spec =
@@ -38,9 +35,7 @@ numbers_given_spec =
     (λ c. search rules)
     (λ c. search rules)
     (λ c. search rules)
-    (λ c. search rules)
     returns
     returns-2
     returns-3
-    returns-4
-    returns-5)
+    returns-4)

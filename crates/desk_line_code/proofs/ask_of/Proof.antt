@@ -10,13 +10,13 @@ returns : tie.Need-returns
 unfolding desk_ask
 returns c =
     let m = c.before in
-    rw (lt-leb 50 _ m.before.if1.true) (rw (← m.call-of.ensures) c.as-made.ensures)
+    rw (lt-leb 50 _ m.before.if1.true) (rw (← m.request-of.ensures) c.as-made.ensures)
 
 returns-2 : tie.Need-returns-2
 unfolding desk_ask
 returns-2 c =
     let m = c.before in
-    rw (le-leb 50 _ m.before.if1.false) (rw (← m.call-of2.ensures) c.as-tried.ensures)
+    rw (le-leb 50 _ m.before.if1.false) (rw (← m.request-of2.ensures) c.as-tried.ensures)
 
 pub ask_of_spec : {M : Type 1} → statement M
 ask_of_spec =

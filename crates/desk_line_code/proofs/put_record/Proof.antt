@@ -9,17 +9,17 @@ use lib.Seq.{paste, paste-zero, length-paste, take_all}
 use borrow.Author.Rules.{rules}
 use Rattle.wire.specs.Format.{text, text_of}
 use Rattle.wire.proofs.RoundTrip.{text_long}
-use Rattle.desk_line.specs.Columns.{record_count, record_columns, record_width}
+use Rattle.desk_line.specs.Columns.{record_columns}
 use Rattle.desk_line_code.proofs.Columns.{first_text, put_next}
 use Rattle.desk_line_code.proofs.put_record.Statement.{statement}
 use Rattle.desk_line_code.proofs.put_record.Tie as tie
 
 -- the first i numbers are written
 abbrev invariant-loop : tie.invariant-loop
-invariant-loop out₀ numbers i₀ out i = (i ≤ record_count) × (length out ≡ length out₀) × (length numbers ≡ record_count) × (out ≡ paste out₀ 44 (first_text i numbers) (14 * i))
+invariant-loop out₀ numbers i₀ out i = (i ≤ 16) × (length out ≡ length out₀) × (length numbers ≡ 16) × (out ≡ paste out₀ 44 (first_text i numbers) (14 * i))
 
 abbrev decreases-loop : tie.decreases-loop
-decreases-loop out₀ numbers i₀ out i = record_count - i
+decreases-loop out₀ numbers i₀ out i = 16 - i
 
 loop-holds : tie.Need-loop-init invariant-loop decreases-loop
 loop-holds c = (omega arith, refl, search rules, paste-zero c.before.args.out.now 44 (first_text 0 c.before.args.t2))
@@ -70,10 +70,10 @@ returns c =
     let k = c.before in
     let a = k.before.before.args in
     let (within, size, all, written) = k.loop.invariant in
-    let last : k.loop.i ≡ record_count = omega arith in
+    let last : k.loop.i ≡ 16 = omega arith in
     written
     ∙ ap (λ (i : ℕ). paste a.out.now 44 (first_text i a.t2) (14 * i)) last
-    ∙ ap (λ (l : List ℕ). paste a.out.now 44 (text_of record_columns l) record_width) (take_all record_count a.t2 (omega arith))
+    ∙ ap (λ (l : List ℕ). paste a.out.now 44 (text_of record_columns l) 224) (take_all 16 a.t2 (omega arith))
 
 pub put_record_spec : {M : Type 1} → statement M
 put_record_spec =

@@ -1,13 +1,12 @@
 -- `desk_line_code::render` meets its contract.
 -- Assumes nothing.
-use Prim.Native.Nat.{◌+◌, ◌≤◌}
+use Prim.Native.Nat.{◌≤◌}
 use mathlib.Core.Path.{◌≡◌, refl, ap, ◌∙◌}
 use lib.ListN.{length, set}
 use borrow.Author.Tests.{lt-leb, le-leb}
 use borrow.Author.Rules.{rules}
-use Rattle.wire.specs.Format.{answer_width}
 use Rattle.stream.specs.Input.{over}
-use Rattle.desk_line.specs.Columns.{record_width, desk_line, desk_width}
+use Rattle.desk_line.specs.Columns.{desk_line, desk_width}
 use Rattle.desk_line_code.proofs.Columns.{line_put, put_long}
 use Rattle.desk_line_code.proofs.render.Statement.{statement}
 use Rattle.desk_line_code.proofs.render.Tie as tie
@@ -29,7 +28,7 @@ module _ (c : tie.After-slice-known3) where
   room : desk_width ≤ length start.args.out.now
   room = r.before.before.before.before.if1.left
 
-  written : set p.put_record.last.0 (answer_width + record_width) 10 ≡ over (desk_line start.args.w) start.args.out.now
+  written : set p.put_record.last.0 268 10 ≡ over (desk_line start.args.w) start.args.out.now
   written =
       line_put start.args.out.now _ _ _ start.args.w _ room r.before.before.Numbers-of.ensures p.before.record-numbers.ensures
       r.render.ensures.1 p.put_record.ensures

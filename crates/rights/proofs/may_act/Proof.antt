@@ -25,10 +25,6 @@ returns-5 : tie.Need-returns-5
 unfolding may_ask
 returns-5 c = rw c.enum-told5.given.1
 
-returns-6 : tie.Need-returns-6
-unfolding may_ask
-returns-6 c = rw c.before.enum-told6.given.1 c.is-train3.ensures
-
 pub may_act_spec : {M : Type 1} → statement M
 may_act_spec =
     tie.close
@@ -40,11 +36,8 @@ may_act_spec =
     (λ c. search rules)
     (λ c. search rules)
     (λ c. search rules)
-    (λ c. search rules)
-    (λ c κs. search rules)
     returns
     returns-2
     returns-3
     returns-4
-    returns-5
-    returns-6)
+    returns-5)
