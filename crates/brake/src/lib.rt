@@ -1,4 +1,6 @@
 // The brake figures of a consist: document 01, "Line and consist".
+#![tactic(auto)]
+
 ghost use Rattle.std.specs.Prelude.{◌≤◌, ◌<◌, ◌≡◌};
 ghost use Rattle.ranges.specs.Ranges.{greatest_length};
 ghost use Rattle.brake.specs.Consist.{car_of, sheet_entry, brake_cycles, figures_of};

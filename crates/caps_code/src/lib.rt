@@ -1,4 +1,5 @@
 // Works out the order of one train: the greatest cap that fits, or brake. Document 01, "Orders"; document 02, (iv).
+#![tactic(auto)]
 ghost use Rattle.std.specs.Prelude.{true, ◌≡◌, ◌≤◌, length};
 ghost use Rattle.brake.specs.Consist.{Sound};
 ghost use Rattle.motion.specs.Motion.{drive_speed};

@@ -1,6 +1,7 @@
 // The desk: the session's calls, and previews of them, from standard input; for each line the answer and the record of the train that it names.
 // For people and for tests: it keeps nothing, and need not be quick. Thin: everything that matters is in `desk_line` and `desk_line_code`. What
 // is written is what `write_line` requires of the bytes that it is given: nothing else writes to standard output.
+#![tactic(auto)]
 ghost use Rattle.std.specs.Prelude.{◌≡◌, ◌≤◌, length};
 ghost use Rattle.stream.specs.Input.{kept_width};
 ghost use Rattle.desk_line.specs.Desk.{desk_answered};

@@ -1,6 +1,7 @@
 // No code: the calls on the table of trains. Document 01, "Authorities" and "What is turned down"; document 02, (iii). Each names its caller.
 // It is decided first, and then the table is changed. A preview of a call is its decision alone: document 02, (v). The functions are in
 // `line_decide_code` and `line_code`.
+#![tactic(auto)]
 use calls::Answer;
 use table::{Change, Table};
 use train::Train;

@@ -1,5 +1,6 @@
 // No code: one train's worst-case motion, and where an order lets it stop. Document 01, "Worst-case motion" and "Orders". The functions are in
 // `motion_code`.
+#![tactic(auto)]
 
 // An order: drive with a cap on the traction, or brake.
 #[derive(Drop)]

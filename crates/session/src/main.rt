@@ -2,6 +2,7 @@
 // is in `stream` and `stream_code`. No contract can say which bytes `read` and `write` move. So what is read here is what stands in the
 // buffer after a read, and what is written is what `write_answers` and `write_last` require of the bytes that they are given: nothing else
 // writes to standard output.
+#![tactic(auto)]
 ghost use Rattle.std.specs.Prelude.{◌≡◌, ◌*◌, ◌≤◌, ◌<◌, length, take};
 ghost use Rattle.stream.specs.Input.{last_answer, begun, output_width, answers_to};
 ghost use Rattle.session.specs.Program.{ReadOnce, TookIn, Stopped, Whole, next_after, stop_after_last};

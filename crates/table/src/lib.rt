@@ -1,4 +1,5 @@
 // No code: the table of trains, 32 places, and its changes. The functions are in `table_code`.
+#![tactic(auto)]
 use calls::Opening;
 use train::{Settings, Train};
 
