@@ -5,7 +5,7 @@ use calls::{Refusal, Values};
 use train::Train;
 
 // What an act of a train comes to: turned down, or its checks passed, what it gives and the record after it.
-#[derive(Drop)]
+#[derive(Clone, Copy)]
 pub enum Verdict {
     TurnedDown(Refusal),
     Passed(Values, Train),

@@ -11,21 +11,21 @@ mod sheet;
 pub const GREATEST_FULL: u64 = 162039;
 
 // Full brake B and growth j: the speed that one cycle takes off, and what the next cycle takes off on top, in µm/s.
-#[derive(Drop)]
+#[derive(Clone, Copy)]
 pub struct Figures {
     pub full: u64,
     pub growth: u64,
 }
 
 // What a load class says of each car: brake force in lbf and mass in lb.
-#[derive(Drop)]
+#[derive(Clone, Copy)]
 pub enum CarFound {
     Rated(u64, u64),
     NoClass,
 }
 
 // The figures of a consist, or none: answer 4.
-#[derive(Drop)]
+#[derive(Clone, Copy)]
 pub enum FiguresFound {
     Given(Figures),
     NoFigures,

@@ -6,7 +6,7 @@ use motion::Order;
 // ---- what is asked
 
 // Open: line end, safety distance, speed ceiling V, greatest traction A.
-#[derive(Drop)]
+#[derive(Clone, Copy)]
 pub struct Opening {
     pub end: u64,
     pub safety: u64,
@@ -15,7 +15,7 @@ pub struct Opening {
 }
 
 // Enter: id, head, length in feet, load class, starting request number.
-#[derive(Drop)]
+#[derive(Clone, Copy)]
 pub struct Entry {
     pub id: u64,
     pub head: u64,
@@ -25,21 +25,21 @@ pub struct Entry {
 }
 
 // Report: head and speed at the end of a cycle.
-#[derive(Drop)]
+#[derive(Clone, Copy)]
 pub struct Reading {
     pub head: u64,
     pub speed: u64,
 }
 
 // Extend: request number, and the length of track that is asked for.
-#[derive(Drop)]
+#[derive(Clone, Copy)]
 pub struct Extension {
     pub number: u64,
     pub length: u64,
 }
 
 // A call that names a train on the line and leaves it there. Call back names a place.
-#[derive(Drop)]
+#[derive(Clone, Copy)]
 pub enum Act {
     Report(Reading),
     Extend(Extension),
@@ -49,7 +49,7 @@ pub enum Act {
 }
 
 // A call on a table: enter, an act of the train with an id, take off (id).
-#[derive(Drop)]
+#[derive(Clone, Copy)]
 pub enum Call {
     Enter(Entry),
     Own(u64, Act),
@@ -57,21 +57,21 @@ pub enum Call {
 }
 
 // What is asked: a new table, or a call on the one there is.
-#[derive(Drop)]
+#[derive(Clone, Copy)]
 pub enum Ask {
     Open(Opening),
     OnTable(Call),
 }
 
 // A request, as a line makes it: the number of its caller, and what is asked.
-#[derive(Drop)]
+#[derive(Clone, Copy)]
 pub struct Request {
     pub caller: u64,
     pub ask: Ask,
 }
 
 // A row of numbers, read: some rows ask nothing.
-#[derive(Drop)]
+#[derive(Clone, Copy)]
 pub enum RequestRead {
     Read(Request),
     Unreadable,
@@ -83,7 +83,7 @@ pub const ROW: usize = 7;
 // ---- what is answered
 
 // What is turned down.
-#[derive(Drop)]
+#[derive(Clone, Copy)]
 pub enum Refusal {
     BadLine,
     OutOfTurn,
@@ -106,7 +106,7 @@ pub enum Refusal {
 
 // What an accepted call gives. Entered: B, j and end. Ordered: the order and its reach. Extended: the end, and whether the request
 // is a repeat. The other calls: zeros.
-#[derive(Drop)]
+#[derive(Clone, Copy)]
 pub enum Values {
     Entered(u64, u64, u64),
     Ordered(Order, u64),
@@ -115,14 +115,14 @@ pub enum Values {
 }
 
 // The answer to a call.
-#[derive(Drop)]
+#[derive(Clone, Copy)]
 pub enum Answer {
     Accepted(Values),
     Refused(Refusal),
 }
 
 // Document 01's number of an answer and its three values.
-#[derive(Drop)]
+#[derive(Clone, Copy)]
 pub struct Numbers {
     pub number: u64,
     pub first: u64,

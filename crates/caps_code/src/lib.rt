@@ -1,5 +1,6 @@
 // Works out the order of one train: the greatest cap that fits, or brake. Document 01, "Orders"; document 02, (iv).
 #![tactic(auto)]
+
 ghost use Rattle.std.specs.Prelude.{true, ◌≡◌, ◌≤◌, length};
 ghost use Rattle.brake.specs.Consist.{Sound};
 ghost use Rattle.motion.specs.Motion.{drive_speed};
@@ -124,7 +125,7 @@ fn stop_read(k: Figures, list: &[u64], v: u64) -> u64
 // ---- the search
 
 // The caps left to a search lie between two: low, whose reach is kept, keeps the goal, and high, whose reach is beyond, does not.
-#[derive(Drop)]
+#[derive(Clone, Copy)]
 struct Gap {
     low: u64,
     kept: u64,

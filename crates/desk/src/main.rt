@@ -12,14 +12,14 @@ use desk_line_code::DESK_WIDTH;
 use stream::{Session, Stream};
 
 // What comes of a line: the state after it, and whether its output line was written.
-#[derive(Drop)]
+#[derive(Clone, Copy)]
 struct Answered {
     session: Session,
     written: bool,
 }
 
 // What comes of a piece of the input: the stream after it, and whether all output lines were written.
-#[derive(Drop)]
+#[derive(Clone, Copy)]
 struct Turned {
     stream: Stream,
     written: bool,

@@ -6,7 +6,7 @@ use line::Shown;
 use stream::Session;
 
 // What a line asks: a request that is made, or one that a preview tries. Some lines ask nothing.
-#[derive(Drop)]
+#[derive(Clone, Copy)]
 pub enum DeskRead {
     Made(Request),
     Tried(Request),
@@ -14,7 +14,7 @@ pub enum DeskRead {
 }
 
 // What a line comes to: what is shown of it, and the state after it.
-#[derive(Drop)]
+#[derive(Clone, Copy)]
 pub struct DeskReply {
     pub shown: Shown,
     pub session: Session,

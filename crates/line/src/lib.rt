@@ -7,21 +7,21 @@ use table::{Change, Table};
 use train::Train;
 
 // The answer to a request, and what changes in the table.
-#[derive(Drop)]
+#[derive(Clone, Copy)]
 pub struct Decision {
     pub answer: Answer,
     pub change: Change,
 }
 
 // The answer and the table after a call.
-#[derive(Drop)]
+#[derive(Clone, Copy)]
 pub struct Outcome {
     pub answer: Answer,
     pub table: Table,
 }
 
 // What a preview shows: the answer, and the record of the train that the request names, as the table would hold it then.
-#[derive(Drop)]
+#[derive(Clone, Copy)]
 pub struct Shown {
     pub answer: Answer,
     pub train: Train,

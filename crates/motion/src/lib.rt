@@ -3,14 +3,14 @@
 #![tactic(auto)]
 
 // An order: drive with a cap on the traction, or brake.
-#[derive(Drop)]
+#[derive(Clone, Copy)]
 pub enum Order {
     Drive(u64),
     Brake,
 }
 
 // A train at the end of a cycle: its head, its speed, and the level that a brake in the coming cycle has.
-#[derive(Drop)]
+#[derive(Clone, Copy)]
 pub struct Motion {
     pub head: u64,
     pub speed: u64,
@@ -18,7 +18,7 @@ pub struct Motion {
 }
 
 // Speed ceiling V and greatest traction A.
-#[derive(Drop)]
+#[derive(Clone, Copy)]
 pub struct Maxima {
     pub ceiling: u64,
     pub traction: u64,

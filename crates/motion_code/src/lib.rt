@@ -1,6 +1,7 @@
 // Works out the worst-case motion of one train, and where an order lets it stop: document 01, "Worst-case motion" and "Orders". The order
 // itself is worked out in `caps_code`.
 #![tactic(auto)]
+
 ghost use Rattle.std.specs.Prelude.{◌≡◌, ◌+◌, ◌*◌, ◌^◌, ◌≤◌, ◌<◌};
 ghost use Rattle.motion.specs.Motion.{brake_travel, brake_speed, next_level, drive_travel, drive_speed, stands, stopping_distance};
 ghost use Rattle.motion.specs.Orders.{order_number, order_cap, is_brake, worst_case, reach};
@@ -12,7 +13,7 @@ use motion::{Motion, Order};
 use ranges::{GREATEST_CEILING, GREATEST_LINE_END, GREATEST_TRACTION};
 
 // An order and its reach.
-#[derive(Drop)]
+#[derive(Clone, Copy)]
 pub struct Offer {
     pub order: Order,
     pub reach: u64,

@@ -18,7 +18,7 @@ use Rattle.table.proofs.Trains.{Sized, line_length, train_on_line}
 use Rattle.safety.specs.History.{Told, Line}
 use Rattle.safety.specs.Claim.{record_of}
 use Rattle.safety.proofs.Finding.{Absent, IsAt, missing, found}
-use Rattle.safety.proofs.Line.{Lined, first_limit, limit_in}
+use Rattle.safety.proofs.Line.{Lined, first_limit, behind, limit_in}
 
 -- of the line that o opened the history tells l, and the table is t
 pub record Agrees (o : Opening) (l : Line) (t : Table) : Type 0 where
@@ -32,7 +32,7 @@ limit_next : (σ : Settings) (limit : Limit) (xs : List Told) (i : ℕ) → i < 
     → limit_behind σ (some (get_or (map record_of xs) i blank_train)) ≡ limit_in σ limit xs (suc i)
 limit_next σ limit [] i h = absurd (omega arith)
 limit_next σ limit (x ∷ xs) zero h = refl
-limit_next σ limit (x ∷ xs) (suc i) h = limit_next σ _ xs i (omega arith)
+limit_next σ limit (x ∷ xs) (suc i) h = limit_next σ (behind σ x) xs i (omega arith)
 
 module _ (o : Opening) (l : Line) (t : Table) (A : Agrees o l t) where
   abbrev xs : List Told

@@ -11,7 +11,7 @@ use stream::Stream;
 
 // How a session stops: at the end of its input; at a read that failed; where answers could not be written; or where the count of bytes has
 // no room for a piece more, which no run reaches.
-#[derive(Drop)]
+#[derive(Clone, Copy)]
 enum Stop {
     Ended,
     NotRead,
@@ -20,7 +20,7 @@ enum Stop {
 }
 
 // What follows a turn: one more, or the stop.
-#[derive(Drop)]
+#[derive(Clone, Copy)]
 enum Next {
     More,
     Done(Stop),
@@ -28,7 +28,7 @@ enum Next {
 
 // What comes of a read: the stream after it, how many bytes were read, how many bytes of answers stand at the front of `out`, and whether
 // the read failed.
-#[derive(Drop)]
+#[derive(Clone, Copy)]
 struct Took {
     stream: Stream,
     read: usize,
@@ -37,7 +37,7 @@ struct Took {
 }
 
 // What comes of all turns: the stream after them, how many bytes were read, and how they stopped.
-#[derive(Drop)]
+#[derive(Clone, Copy)]
 struct Ran {
     stream: Stream,
     read: usize,
@@ -45,7 +45,7 @@ struct Ran {
 }
 
 // What comes of the end of the input: how many bytes the last answer has, and whether it could be written.
-#[derive(Drop)]
+#[derive(Clone, Copy)]
 struct Closed {
     last: usize,
     written: bool,
@@ -53,7 +53,7 @@ struct Closed {
 
 // What comes of a session: how many bytes were read, how it stopped, whether the input ended, and how many bytes its last answer has. The
 // input may have ended though the last answer could not be written.
-#[derive(Drop)]
+#[derive(Clone, Copy)]
 struct Served {
     read: usize,
     how: Stop,

@@ -6,7 +6,7 @@ use train::{Settings, Train};
 pub const PLACES: usize = 32;
 
 // The trains on the line are the first `count` records, front train first.
-#[derive(Drop)]
+#[derive(Clone, Copy)]
 pub struct Table {
     pub trains: [Train; PLACES],
     pub settings: Settings,
@@ -15,7 +15,7 @@ pub struct Table {
 
 // What a call changes: nothing, the record at a place, a train behind the last, the first train gone, or another table with no train, as it
 // was opened.
-#[derive(Drop)]
+#[derive(Clone, Copy)]
 pub enum Change {
     Stay,
     Put(usize, Train),

@@ -13,7 +13,7 @@ use train::{Limit, Train};
 
 // What a call needs of the table: the place, the limit and the record of the train that it names. Where no train has that id: the limit of
 // a train that enters behind the last.
-#[derive(Drop)]
+#[derive(Clone, Copy)]
 pub enum Found {
     At(usize, Limit, Train),
     Nothing(Limit),

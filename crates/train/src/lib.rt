@@ -5,7 +5,7 @@ use brake::Figures;
 use motion::{Maxima, Motion, Order};
 
 // Settings that a table works with: line end, safety distance, and the maxima of every train's motion, V and A.
-#[derive(Drop)]
+#[derive(Clone, Copy)]
 pub struct Settings {
     pub end: u64,
     pub safety: u64,
@@ -15,7 +15,7 @@ pub struct Settings {
 // The stretch of track that a train is lent. The end is the end of authority. The goal is the place that orders are worked out against: the
 // place that a pending call back wants, or the end where none is pending. The number is the last accepted request number, and length is
 // the one that it asked for; before the first one they are the starting number and 0.
-#[derive(Drop)]
+#[derive(Clone, Copy)]
 pub struct Authority {
     pub end: u64,
     pub goal: u64,
@@ -25,14 +25,14 @@ pub struct Authority {
 }
 
 // What calls have marked a train with: a hold, and a penalty brake, which stays on until the train stands.
-#[derive(Drop)]
+#[derive(Clone, Copy)]
 pub struct Marks {
     pub held: bool,
     pub penalty: bool,
 }
 
 // A train record. The length is in feet.
-#[derive(Drop)]
+#[derive(Clone, Copy)]
 pub struct Train {
     pub id: u64,
     pub length: u16,
@@ -44,7 +44,7 @@ pub struct Train {
 }
 
 // A train's limit: a place, or nowhere, where not even 0 is within it.
-#[derive(Drop)]
+#[derive(Clone, Copy)]
 pub enum Limit {
     Place(u64),
     Nowhere,

@@ -19,7 +19,7 @@ use motion_code::Offer;
 use train::{Authority, Limit, Marks, Settings, Train};
 
 // A train record and the reach of its order: a report is answered with it.
-#[derive(Drop)]
+#[derive(Clone, Copy)]
 pub struct Reported {
     pub train: Train,
     pub reach: u64,

@@ -8,7 +8,7 @@ pub const CALL_COLUMNS: [usize; ROW] = [2, 14, 14, 14, 14, 14, 14];
 pub const CALL_WIDTH: usize = CALL_COLUMNS[0] + (ROW - 1) * CALL_COLUMNS[1];
 
 // The columns of a field read so far: spaces, then digits that make a number. Bad: no field begins so.
-#[derive(Drop)]
+#[derive(Clone, Copy)]
 pub enum Scan {
     Blank,
     Digits(u64),
@@ -16,7 +16,7 @@ pub enum Scan {
 }
 
 // A whole field.
-#[derive(Drop)]
+#[derive(Clone, Copy)]
 pub enum Field {
     Number(u64),
     NoNumber,

@@ -11,7 +11,7 @@ use wire::{CALL_COLUMNS, CALL_WIDTH, Field, Scan};
 
 // The numbers of a line, its code first and its caller last. Where a field is none the line is not readable, and the numbers mean nothing. (An enum may
 // not hold an array.)
-#[derive(Drop)]
+#[derive(Clone, Copy)]
 pub struct Row {
     pub readable: bool,
     pub numbers: [u64; ROW],

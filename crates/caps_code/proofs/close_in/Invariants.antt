@@ -1,0 +1,26 @@
+use Prim.Native.Nat.{ℕ, suc, ◌+◌, ◌-◌, ◌≤◌, ◌<◌}
+use mathlib.Core.Logic.{by_cases, inl, inr}
+use mathlib.Core.Path.{◌≡◌, refl, subst}
+use native.Mathlib.Decide.{dec_lt}
+use native.Mathlib.Omega.{arith}
+use Rattle.brake.specs.declared.Figures.{Figures}
+use Rattle.motion.specs.declared.Motion.{Motion}
+use Rattle.motion.specs.declared.Order.TheVariants.{Drive}
+use Rattle.motion.specs.Orders.{reach}
+use Rattle.motion.proofs.Bounds.{bounded_cap}
+use Rattle.motion.proofs.Orders.{reach_mono}
+use Rattle.caps_code.specs.declared.Gap.{Gap}
+use Rattle.caps_code.specs.Search.{Closing}
+use Rattle.caps_code.proofs.Trials.{listed_below, found, trials_left, fewer_left, trials_most}
+use Rattle.caps_code.proofs.close_in.Given as goal
+
+pub record Between (k : Figures) (goal : ℕ) (m : Motion) (start gap : Gap) (trials : ℕ) : Type 0 where
+  pub sides : Closing k goal m gap
+  pub within : gap.high ≤ start.high
+  pub few : trials + trials_left trials (gap.high - gap.low - 1) ≤ 25
+
+abbrev pub invariant-loop-gap : goal.invariant-loop-gap
+invariant-loop-gap l = Between l.k l.goal l.m l.initial.gap l.gap l.trials
+
+abbrev pub decreases-loop-gap : goal.decreases-loop-gap
+decreases-loop-gap l = trials_left l.trials (l.gap.high - l.gap.low - 1)

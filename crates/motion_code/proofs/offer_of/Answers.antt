@@ -1,0 +1,6 @@
+-- `motion_code::offer_of` meets its contract.
+use borrow.Author.Rules.{rules}
+use Rattle.motion_code.proofs.offer_of.Goals as goal
+
+pub returns : goal.returns
+returns c = rw c.reach_of.ensures
