@@ -1,5 +1,6 @@
 // Sets answers out in numbers, and reads requests from numbers: document 01, "What is turned down" and "The session program"; document 02, (iii).
 #![tactic(auto)]
+
 ghost use Rattle.std.specs.Prelude.{◌≡◌, take};
 ghost use Rattle.calls.specs.Answers.{refusal_number, numbers_of};
 ghost use Rattle.calls.specs.Requests.{zero_from, caller_place, read_as, request_of};

@@ -1,5 +1,6 @@
 // One train: makes its record, works its limit out, judges and answers its reports. Document 01, "Line and consist" and "Orders".
 #![tactic(auto)]
+
 ghost use Rattle.std.specs.Prelude.{◌≡◌, true, ◌+◌, ◌^◌, ◌≤◌, ◌<◌};
 ghost use Rattle.std.proofs.Math.Option.{some};
 ghost use Rattle.ranges.specs.Ranges.{greatest_length};
