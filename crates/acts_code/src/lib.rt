@@ -1,6 +1,7 @@
 // Decides each act of a train on the line: its checks, what it gives and the record after it. Document 01, "Authorities" and "What is turned
 // down".
 #![tactic(auto)]
+
 ghost use Rattle.std.specs.Prelude.{◌≡◌, true, ◌+◌, ◌^◌, ◌<◌};
 ghost use Rattle.train.specs.Record.{authorised};
 ghost use Rattle.train.specs.Report.{computable};

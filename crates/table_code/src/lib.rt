@@ -1,5 +1,6 @@
 // Finds trains in the table, and changes it. The table goes in and comes back by value.
 #![tactic(auto)]
+
 ghost use Rattle.std.specs.Prelude.{◌≡◌, min, ◌-◌, ◌<◌};
 ghost use Rattle.train.specs.Ranges.{settings_of};
 ghost use Rattle.table.specs.Table.{places, blank_train, empty_table, place_of, train_at, limit_at, changed, Fits};

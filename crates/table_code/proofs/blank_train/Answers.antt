@@ -1,0 +1,6 @@
+-- `table_code::blank_train` meets its contract.
+use borrow.Author.Rules.{rules}
+use Rattle.table_code.proofs.blank_train.Goals as goal
+
+pub returns : goal.returns
+returns c = rw (c.fresh_authority.ensures, c.fresh_marks.ensures)
