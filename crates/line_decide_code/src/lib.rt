@@ -2,6 +2,7 @@
 // is: what changes in it is part of the decision. The search for the train that a request names comes first. What is decided after it reads
 // only settings and count of the table, at fixed places; the rest of it is for the contracts, and the compiler copies none of it.
 #![tactic(auto)]
+
 ghost use Rattle.std.specs.Prelude.{◌≡◌, true, ◌&&◌, ◌≤◌};
 ghost use Rattle.ranges.specs.Ranges.{greatest_length, id_in_range, start_in_range};
 ghost use Rattle.line.specs.Decide.{refused, accepted, open_decision, enter_decision, decide_on, out_of_turn, decided};

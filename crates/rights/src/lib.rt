@@ -1,6 +1,7 @@
 // Who may ask what: document 02, (iii). The right is judged by the caller's number, the kind of call and the id that it names. No table is
 // at hand here.
 #![tactic(auto)]
+
 ghost use Rattle.std.specs.Prelude.{◌≡◌};
 ghost use Rattle.rights.specs.Rights.{is_train, may_ask};
 

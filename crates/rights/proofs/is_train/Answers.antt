@@ -1,0 +1,6 @@
+-- `rights::is_train` meets its contract.
+use borrow.Author.Rules.{rules}
+use Rattle.rights.proofs.is_train.Goals as goal
+
+pub returns : goal.returns
+returns c = rw (c.both.ensures, c.id_in_range.ensures)
