@@ -1,6 +1,7 @@
 // The calls on the table of trains: document 01, "Authorities" and "What is turned down"; document 02, (iii). Each names its caller. It is
 // decided first, and then the table is changed. A preview, document 02, (v), is decided alone.
 #![tactic(auto)]
+
 ghost use Rattle.std.specs.Prelude.{◌≡◌, true, false};
 ghost use Rattle.calls.specs.Requests.{request};
 ghost use Rattle.line.specs.Step.{no_table, requested};

@@ -1,6 +1,7 @@
 // One line of a session's input: where it ends in its piece, which of its bytes are kept, what it asks, what is decided of it, and its output
 // line. Document 01, "The session program".
 #![tactic(auto)]
+
 ghost use Rattle.std.specs.Prelude.{◌≡◌, false, ◌||◌, ◌++◌, min, ◌+◌, ◌≤◌, eqb, length, take};
 ghost use Rattle.std.proofs.Math.Seq.{paste};
 ghost use Rattle.calls.specs.declared.Request.{Request};

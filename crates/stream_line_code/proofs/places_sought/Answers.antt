@@ -1,0 +1,10 @@
+-- `stream_line_code::places_sought` meets its contract.
+use Prim.Native.Nat.{ℕ}
+use mathlib.Core.Path.{◌≡◌}
+use native.Mathlib.Omega.{arith}
+use borrow.Author.Rules.{rules}
+use Rattle.stream_line_code.proofs.places_sought.Goals as goal
+
+-- an unreadable line is none that was read
+pub returns-in-Unreadable : goal.returns-in-Unreadable
+returns-in-Unreadable c = (omega arith, λ x read. let z : ◌≡◌ {A = ℕ} 0 1 = cc in absurd (omega arith))
