@@ -1,6 +1,7 @@
 // What is done for a line at the desk: it is read, made or tried, and what is shown of it is written. The table goes in and comes back by value:
 // nothing here has to be quick.
 #![tactic(auto)]
+
 ghost use Rattle.std.specs.Prelude.{◌≡◌, ◌≤◌, length};
 ghost use Rattle.std.proofs.Math.Seq.{paste};
 ghost use Rattle.wire.specs.Format.{text_of};

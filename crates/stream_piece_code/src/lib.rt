@@ -1,5 +1,6 @@
 // A piece of a session's input, in the hands of one function: it holds the table from line to line. Document 01, "The session program".
 #![tactic(auto)]
+
 ghost use Rattle.std.specs.Prelude.{◌≡◌, true, ◌*◌, ◌≤◌, length};
 ghost use Rattle.stream.specs.Input.{output_width, Taken};
 
