@@ -3,10 +3,12 @@
 // buffer after a read, and what is written is what `write_answers` and `write_last` require of the bytes that they are given: nothing else
 // writes to standard output.
 #![tactic(auto)]
-ghost use Rattle.std.specs.Prelude.{◌≡◌, ◌*◌, ◌≤◌, ◌<◌, length, take};
+
+ghost use Rattle.std.specs.Prelude.{◌≡◌, ◌*◌, ◌≤◌, ◌<◌, length, take, IfSome};
 ghost use Rattle.stream.specs.Input.{last_answer, begun, output_width, answers_to};
 ghost use Rattle.session.specs.Program.{ReadOnce, TookIn, Stopped, Whole, next_after, stop_after_last};
 
+use std::io::{Print, Read};
 use stream::Stream;
 
 // How a session stops: at the end of its input; at a read that failed; where answers could not be written; or where the count of bytes has
@@ -62,28 +64,35 @@ struct Served {
 }
 
 // Writes the answers to the lines that a piece ends. The stream and the piece are for the contract.
-fn write_answers(x: Stream, piece: &[u8], bytes: &[u8]) -> bool
+fn write_answers(rt: HostRuntime, x: Stream, piece: &[u8], bytes: &[u8]) -> bool
     requires { bytes.now ≡ answers_to x piece.now }
 {
-    io::write_all(1, bytes)
+    rt.write_all(bytes).is_ok()
 }
 
 // Writes the answer to a last line without its line feed. How reading stopped and the stream are for the contract: a line that has begun is
 // the last one only at the end of the input.
-fn write_last(how: Stop, x: Stream, bytes: &[u8]) -> bool
+fn write_last(rt: HostRuntime, how: Stop, x: Stream, bytes: &[u8]) -> bool
     requires { (how ≡ Stop.Ended) × (bytes.now ≡ last_answer (begun x)) }
 {
-    io::write_all(1, bytes)
+    rt.write_all(bytes).is_ok()
+}
+
+// Reads once, and tells how many bytes stand at the front of the piece then, or nothing where the read failed.
+fn read_once(rt: HostRuntime, piece: &mut [u8]) -> Option<usize>
+    ensures { IfSome result (λ n. n ≤ length piece.new) }
+{
+    rt.stdin().read(piece).ok()
 }
 
 // Reads once, and answers all lines that are whole by then. `out` has room for every piece, so that each is taken. At the end of the input,
 // and where the read failed, the piece is empty.
-fn take_in(x: Stream, piece: &mut [u8], out: &mut [u8]) -> Took
+fn take_in(rt: HostRuntime, x: Stream, piece: &mut [u8], out: &mut [u8]) -> Took
     requires { output_width * length piece.old ≤ length out.old }
     ensures { ReadOnce x result.failed result.read result.answered result.stream piece.new out.new }
 {
-    let got = libc::read(0, piece);
-    let n = io::count(got, piece);
+    let got = read_once(rt, piece);
+    let n = got.unwrap_or(0);
     let fed = stream_code::feed(x, &piece[..n], out);
     let stream = fed.stream;
     let answered = fed.count;
@@ -91,7 +100,7 @@ fn take_in(x: Stream, piece: &mut [u8], out: &mut [u8]) -> Took
         stream,
         read: n,
         answered,
-        failed: got < 0,
+        failed: got.is_none(),
     }
 }
 
@@ -116,20 +125,20 @@ fn after_turn(failed: bool, n: usize, written: bool) -> Next
 // end. The stream of before is for the contract of that; the next one is in its place by then, since the compiler would copy it once more
 // across the write. A proved loop has to end, and nothing says that an input does. So the loop counts the bytes, up to a number that no run
 // reaches.
-fn run(x: Stream, piece: &mut [u8], out: &mut [u8]) -> Ran
+fn run(rt: HostRuntime, x: Stream, piece: &mut [u8], out: &mut [u8]) -> Ran
     requires { output_width * length piece.old ≤ length out.old }
     ensures { TookIn x result.read result.stream × Stopped result.how result.read piece.new }
 {
     let mut y = x;
     let mut read: usize = 0;
     while read <= usize::MAX - piece.len() {
-        let t = take_in(y, piece, out);
+        let t = take_in(rt, y, piece, out);
         let n = t.read;
         let answered = t.answered;
         let failed = t.failed;
         let before = y;
         y = t.stream;
-        let written = write_answers(before, &piece[..n], &out[..answered]);
+        let written = write_answers(rt, before, &piece[..n], &out[..answered]);
         read += n;
         let next = after_turn(failed, n, written);
         if let Next::Done(how) = next {
@@ -148,13 +157,13 @@ fn run(x: Stream, piece: &mut [u8], out: &mut [u8]) -> Ran
 }
 
 // At the end of the input: writes the answer to a last line without its line feed. How reading stopped is for the contract.
-fn close(how: Stop, x: Stream, out: &mut [u8]) -> Closed
+fn close(rt: HostRuntime, how: Stop, x: Stream, out: &mut [u8]) -> Closed
     requires { (how ≡ Stop.Ended) × (output_width ≤ length out.old) }
     ensures { take result.last out.new ≡ last_answer (begun x) }
 {
     let f = stream_code::finish(x, out);
     let last = f.count;
-    let written = write_last(how, x, &out[..last]);
+    let written = write_last(rt, how, x, &out[..last]);
     Closed { last, written }
 }
 
@@ -171,11 +180,11 @@ fn after_last(written: bool) -> Stop
 
 // A whole session. Where a read failed, the line that has begun is not answered: its rest may still come. An empty piece would never show
 // more than the end of the input.
-fn serve(piece: &mut [u8], out: &mut [u8]) -> Served
+fn serve(rt: HostRuntime, piece: &mut [u8], out: &mut [u8]) -> Served
     requires { (0 < length piece.old) × (output_width * length piece.old ≤ length out.old) }
     ensures { Whole result.read result.how result.ended (take result.last out.new) × Stopped result.how result.read piece.new }
 {
-    let r = run(stream_code::start(), piece, out);
+    let r = run(rt, stream_code::start(), piece, out);
     let read = r.read;
     let how = r.how;
     let Stop::Ended = how else {
@@ -187,7 +196,7 @@ fn serve(piece: &mut [u8], out: &mut [u8]) -> Served
         };
     };
     let x = r.stream;
-    let c = close(how, x, out);
+    let c = close(rt, how, x, out);
     let last = c.last;
     let written = c.written;
     Served {
@@ -198,29 +207,28 @@ fn serve(piece: &mut [u8], out: &mut [u8]) -> Served
     }
 }
 
-// Says on standard error why the session stopped before all was answered. Nothing else tells it: the program has no exit status.
-fn tell(how: Stop) {
+// Says on standard error why the session stopped before all was answered. Nothing else tells it: the exit status is 0.
+fn tell(rt: HostRuntime, how: Stop) {
     match how {
         Stop::Ended => {}
-        Stop::NotRead => {
-            io::write_all(
-                2,
-                b"session: standard input cannot be read; nothing more is answered\n",
-            );
-        }
-        Stop::NotWritten => {
-            io::write_all(
-                2,
-                b"session: standard output cannot be written; nothing more is answered\n",
-            );
-        }
-        Stop::Full => {
-            io::write_all(
-                2,
-                b"session: no more bytes can be counted; nothing more is answered\n",
-            );
-        }
+        Stop::NotRead => say(
+            rt,
+            b"session: standard input cannot be read; nothing more is answered\n",
+        ),
+        Stop::NotWritten => say(
+            rt,
+            b"session: standard output cannot be written; nothing more is answered\n",
+        ),
+        Stop::Full => say(
+            rt,
+            b"session: no more bytes can be counted; nothing more is answered\n",
+        ),
     }
+}
+
+// Where standard error cannot be written either, nobody can be told.
+fn say(rt: HostRuntime, message: &[u8]) {
+    let _told = rt.stderr().write_all(message).is_ok();
 }
 
 // The bytes of one read at most.
@@ -229,10 +237,10 @@ const PIECE: usize = 4096;
 // An output line for each byte of a piece: each may be a line feed.
 const OUT: usize = PIECE * stream_line_code::OUTPUT_WIDTH;
 
-fn main() {
+fn main(rt: HostRuntime) {
     let mut piece = [0u8; PIECE];
     let mut out = [0u8; OUT];
-    let served = serve(&mut piece, &mut out);
+    let served = serve(rt, &mut piece, &mut out);
     let how = served.how;
-    tell(how);
+    tell(rt, how);
 }

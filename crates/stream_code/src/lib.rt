@@ -1,5 +1,6 @@
 // Runs a session: answers lines, whole or in pieces, each in the state that the one before it left. Document 01, "The session program".
 #![tactic(auto)]
+
 ghost use Rattle.std.specs.Prelude.{◌≡◌, []};
 ghost use Rattle.wire.specs.Format.{line_read};
 ghost use Rattle.stream.specs.Session.{session, closed, line_decision, answered};
