@@ -2,13 +2,15 @@
 // For people and for tests: it keeps nothing, and need not be quick. Thin: everything that matters is in `desk_line` and `desk_line_code`. What
 // is written is what `write_line` requires of the bytes that it is given: nothing else writes to standard output.
 #![tactic(auto)]
-ghost use Rattle.std.specs.Prelude.{◌≡◌, ◌≤◌, length};
+
+ghost use Rattle.std.specs.Prelude.{◌≡◌, ◌≤◌, length, IfSome};
 ghost use Rattle.stream.specs.Input.{kept_width};
 ghost use Rattle.desk_line.specs.Desk.{desk_answered};
 ghost use Rattle.desk_line.specs.Columns.{desk_line, desk_width};
 ghost use Rattle.desk.specs.Program.{DeskTurn};
 
 use desk_line_code::DESK_WIDTH;
+use std::io::{Print, Read};
 use stream::{Session, Stream};
 
 // What comes of a line: the state after it, and whether its output line was written.
@@ -26,15 +28,21 @@ struct Turned {
 }
 
 // Writes the output line of a line. The state and the line are for the contract.
-fn write_line(s: Session, line: &[u8], bytes: &[u8]) -> bool
+fn write_line(rt: HostRuntime, s: Session, line: &[u8], bytes: &[u8]) -> bool
     requires { bytes.now ≡ desk_line (desk_answered s line.now).shown }
 {
-    io::write_all(1, bytes)
+    rt.write_all(bytes).is_ok()
 }
 
 // Answers a line, given without its line feed. `out` is an output line. It is not written where one before it could not be: no line may be missing
 // between two that are.
-fn take_line(s: Session, line: &[u8], out: &mut [u8], all_written: bool) -> Answered
+fn take_line(
+    rt: HostRuntime,
+    s: Session,
+    line: &[u8],
+    out: &mut [u8],
+    all_written: bool,
+) -> Answered
     requires { length out.old ≡ desk_width }
     ensures { result.session ≡ (desk_answered s line.now).session }
 {
@@ -48,12 +56,12 @@ fn take_line(s: Session, line: &[u8], out: &mut [u8], all_written: bool) -> Answ
             written: false,
         };
     }
-    let written = write_line(s, line, out);
+    let written = write_line(rt, s, line, out);
     Answered { session, written }
 }
 
 // Answers the lines that a piece ends, each in the state that the one before it left.
-fn take_piece(x: Stream, piece: &[u8], out: &mut [u8]) -> Turned
+fn take_piece(rt: HostRuntime, x: Stream, piece: &[u8], out: &mut [u8]) -> Turned
     requires { (x.count ≤ kept_width) × (length out.old ≡ desk_width) }
     ensures { DeskTurn x piece.now result.stream }
 {
@@ -65,7 +73,7 @@ fn take_piece(x: Stream, piece: &[u8], out: &mut [u8]) -> Turned
     let mut to = stream_line_code::line_end(piece, 0);
     while to < piece.len() {
         let n = stream_line_code::push_all(&mut bytes, count, &piece[from..to]);
-        let a = take_line(session, &bytes[..n], out, written);
+        let a = take_line(rt, session, &bytes[..n], out, written);
         session = a.session;
         written = a.written;
         count = 0;
@@ -83,54 +91,63 @@ fn take_piece(x: Stream, piece: &[u8], out: &mut [u8]) -> Turned
     }
 }
 
-// Why it stops before all is answered, on standard error: the program has no exit status.
-fn tell_not_read() {
-    io::write_all(
-        2,
+// Why it stops before all is answered, on standard error: the exit status is 0. Where that cannot be written either, nobody can be told.
+fn tell(rt: HostRuntime, message: &[u8]) {
+    let _told = rt.stderr().write_all(message).is_ok();
+}
+
+fn tell_not_read(rt: HostRuntime) {
+    tell(
+        rt,
         b"desk: standard input cannot be read; nothing more is answered\n",
     );
 }
 
-fn tell_not_written() {
-    io::write_all(
-        2,
+fn tell_not_written(rt: HostRuntime) {
+    tell(
+        rt,
         b"desk: standard output cannot be written; nothing more is answered\n",
     );
 }
 
 // At the end of the input: a last line without its line feed is answered as an empty one is, with 1.
-fn close(x: Stream, out: &mut [u8])
+fn close(rt: HostRuntime, x: Stream, out: &mut [u8])
     requires { length out.old ≡ desk_width }
 {
     if x.count == 0 {
         return;
     }
     let session = x.session;
-    let a = take_line(session, b"", out, true);
+    let a = take_line(rt, session, b"", out, true);
     if !a.written {
-        tell_not_written();
+        tell_not_written(rt);
     }
+}
+
+// Reads once, and tells how many bytes stand at the front of the piece then, or nothing where the read failed.
+fn read_once(rt: HostRuntime, piece: &mut [u8]) -> Option<usize>
+    ensures { IfSome result (λ n. n ≤ length piece.new) }
+{
+    rt.stdin().read(piece).ok()
 }
 
 // Reads until the input ends, a read fails or answers cannot be written. A proved loop has to end, and nothing says that an input does. So the
 // loop counts the bytes, up to a number that no run reaches.
-fn run(piece: &mut [u8], out: &mut [u8])
+fn run(rt: HostRuntime, piece: &mut [u8], out: &mut [u8])
     requires { length out.old ≡ desk_width }
 {
     let mut x = stream_code::start();
     let mut read: usize = 0;
     while read <= usize::MAX - piece.len() {
-        let got = libc::read(0, piece);
-        if got < 0 {
-            return tell_not_read();
-        }
-        let n = io::count(got, piece);
+        let Some(n) = read_once(rt, piece) else {
+            return tell_not_read(rt);
+        };
         if n == 0 {
-            return close(x, out);
+            return close(rt, x, out);
         }
-        let t = take_piece(x, &piece[..n], out);
+        let t = take_piece(rt, x, &piece[..n], out);
         if !t.written {
-            return tell_not_written();
+            return tell_not_written(rt);
         }
         x = t.stream;
         read += n;
@@ -140,8 +157,8 @@ fn run(piece: &mut [u8], out: &mut [u8])
 // The bytes of one read at most.
 const PIECE: usize = 4096;
 
-fn main() {
+fn main(rt: HostRuntime) {
     let mut piece = [0u8; PIECE];
     let mut out = [0u8; DESK_WIDTH];
-    run(&mut piece, &mut out);
+    run(rt, &mut piece, &mut out);
 }
