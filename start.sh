@@ -13,34 +13,47 @@ need() {
     done
 }
 
-# Passes its input on, and shows on standard error when a crate is done, and how many of all ($1) are.
+# Passes its input on, and shows on standard error when a crate is proved, and how many are needed ($1). A crate that is known to be proved
+# is not named.
 show_crates() {
-    local line crate count=0
+    local line crate= count=0
     while IFS= read -r line; do
-        if [[ $line == 'rt: '*' proved ('* ]]; then
-            crate="${line#rt: }"
-            count=$((count + 1))
-            printf '%s: %d of %d proved: %s\n' "$name" "$count" "$1" "${crate/ proved/}" >&2
-        fi
+        case $line in
+        'crate '*:*)
+            crate="${line#crate }"
+            crate="${crate%%:*}"
+            ;;
+        logic=proved*)
+            if [ -n "$crate" ]; then
+                count=$((count + 1))
+                printf '%s: %d of %d proved: %s\n' "$name" "$count" "$1" "$crate" >&2
+                crate=
+            fi
+            ;;
+        esac
         printf '%s\n' "$line"
     done
 }
 
+# `rt run` proves what is not known to be proved, builds the program and runs it, here on an empty input, to which it answers nothing.
 build() {
     local report
     echo "$name: proving and building the program; this takes some minutes the first time" >&2
     need "$name"
-    if ! report="$(cd "$here" && rt check "$name" </dev/null 2>&1 | show_crates "${#needed[@]}")"; then
+    if ! report="$(cd "$here" && rt run "$name" </dev/null 2>&1 | show_crates "${#needed[@]}")"; then
         printf '%s\n' "$report" >&2
         exit 1
     fi
-    touch "$program"
+    mkdir -p "$here/target/bin"
+    # Under another name first: the program may be running.
+    cp "$here/crates/$name/out/$name" "$program.new"
+    mv "$program.new" "$program"
 }
 
 # A line must not wait for a proof because somebody touched a file.
 say_where_newer() {
     local newer
-    newer="$(find "$here/crates" "$here/crates.txt" -newer "$program" -print -quit)"
+    newer="$(find "$here/crates" "$here/crates.txt" -name out -prune -o -type f -newer "$program" -print -quit)"
     if [ -n "$newer" ]; then
         echo "$name: ${newer#"$here/"} is newer than the program; ./$name --build proves and builds it anew" >&2
     fi

@@ -308,7 +308,8 @@ desk: two io
 ";
 
 /// A made-up prover that writes the program that it is to prove.
-const WRITES: &str = "mkdir -p target/bin; echo 'echo run' > target/bin/$2; chmod +x target/bin/$2";
+const WRITES: &str =
+    "to=crates/$2/out; mkdir -p $to; echo 'echo run' > $to/$2; chmod +x $to/$2";
 
 /// A project with a copy of a script, in which nothing has to be proved.
 struct Project {
@@ -373,22 +374,22 @@ fn script_shows_each_crate_when_it_is_done() {
     for script in SCRIPTS {
         let project = Project::new(script, "proving");
         let mut child = project.start(&format!(
-            "echo 'rt: one proved (unchanged since it was last proved)'
-            echo fn two::f: proved; echo 'rt: two proved (1 s)'
+            "echo 'crate one: modules loaded=0 checked=5'; echo 'logic=proved functions=1'
+            echo fn two::f: proved; echo 'crate two: modules loaded=5 checked=2'
+            echo 'logic=proved functions=2'
             while [ ! -e seen ]; do sleep 0.01; done
-            echo \"rt: $2 proved (2 s)\"
-            echo \"rt: $2 ran, and wrote what its file has (0 s)\"
+            echo \"crate $2: modules loaded=7 checked=1\"; echo 'logic=proved functions=3'
+            echo \"rt: running out/$2; to give it other input, run that file yourself\"
             {WRITES}"
         ));
         let mut told = BufReader::new(child.stderr.take().expect("its errors")).lines();
         let mut next = || told.next().map(|line| line.expect("text"));
         let shown = |text: &str| Some(format!("{script}: {text}"));
         assert!(next().is_some_and(|line| line.starts_with(&format!("{script}: proving"))));
-        let unchanged = "1 of 3 proved: one (unchanged since it was last proved)";
-        assert_eq!(next(), shown(unchanged));
-        assert_eq!(next(), shown("2 of 3 proved: two (1 s)"));
+        assert_eq!(next(), shown("1 of 3 proved: one"));
+        assert_eq!(next(), shown("2 of 3 proved: two"));
         fs::write(project.file("seen"), "").expect("a file");
-        assert_eq!(next(), shown(&format!("3 of 3 proved: {script} (2 s)")));
+        assert_eq!(next(), shown(&format!("3 of 3 proved: {script}")));
         assert_eq!(next(), None);
         let output = child.wait_with_output().expect("the script ends");
         assert_eq!(output.stdout, b"run\n");
@@ -400,9 +401,11 @@ fn script_shows_all_where_the_proof_fails() {
     for script in SCRIPTS {
         let project = Project::new(script, "refused");
         let child = project
-            .start("echo 'rt: one proved (1 s)'; echo error: no; echo \"rt: FAILED: $2\"; exit 3");
+            .start("echo 'crate one: modules loaded=0 checked=5'; echo error: no; echo \"rt: FAILED: $2\"; exit 3");
         let ended = Ended::of(child.wait_with_output().expect("the script ends"));
-        let report = format!("rt: one proved (1 s)\nerror: no\nrt: FAILED: {script}\n");
+        let report = format!(
+            "crate one: modules loaded=0 checked=5\nerror: no\nrt: FAILED: {script}\n"
+        );
         assert_eq!(ended.status, Some(1));
         assert!(ended.told.ends_with(&report), "{}", ended.told);
         assert_eq!(ended.answers, "");

@@ -1,6 +1,7 @@
 // No code: what is asked and what is answered, and both in numbers. Document 01, "Authorities", "What is turned down" and "The session
 // program"; document 02, (iii). The functions are in `calls_code`.
 #![tactic(auto)]
+
 use motion::Order;
 
 // ---- what is asked

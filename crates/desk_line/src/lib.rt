@@ -1,6 +1,7 @@
 // No code: a line at the desk. The desk is a program beside the session, for people and for tests: it has the session's calls, previews of them,
 // and shows the record of the train that a line names. No paper asks for it. The functions are in `desk_line_code`.
 #![tactic(auto)]
+
 use calls::Request;
 use line::Shown;
 use stream::Session;

@@ -2,6 +2,7 @@
 // It is decided first, and then the table is changed. A preview of a call is its decision alone: document 02, (v). The functions are in
 // `line_decide_code` and `line_code`.
 #![tactic(auto)]
+
 use calls::Answer;
 use table::{Change, Table};
 use train::Train;

@@ -1,5 +1,6 @@
 // Logic and numbers that speak of no train: tests joined, and quotients rounded up.
 #![tactic(auto)]
+
 ghost use Rattle.std.specs.Prelude.{◌≡◌, ◌&&◌, ◌||◌};
 
 // Whether both tests pass. A chain of tests is one expression with it, and its proof one line.

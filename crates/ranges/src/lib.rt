@@ -1,6 +1,7 @@
 // Document 01, "Line and consist": the table of ranges, a row to a test. Each end is written once: an upper end as a constant, a lower end
 // in its row's test.
 #![tactic(auto)]
+
 ghost use Rattle.std.specs.Prelude.{◌≡◌};
 ghost use Rattle.ranges.specs.Ranges.{between, line_end_in_range, safety_in_range, ceiling_in_range, traction_in_range, id_in_range, length_in_range, number_in_range, start_in_range};
 

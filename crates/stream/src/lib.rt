@@ -1,6 +1,7 @@
 // No code: a session's state between lines, and the input cut into lines. Document 01, "The session program". The functions are in
 // `stream_code`.
 #![tactic(auto)]
+
 use calls::Numbers;
 use table::Table;
 

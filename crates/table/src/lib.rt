@@ -1,5 +1,6 @@
 // No code: the table of trains, 32 places, and its changes. The functions are in `table_code`.
 #![tactic(auto)]
+
 use calls::Opening;
 use train::{Settings, Train};
 

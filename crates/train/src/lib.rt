@@ -1,6 +1,7 @@
 // No code: one train's record, its limit, and how a report is judged and answered. Document 01, "Line and consist" and "Orders". The functions
 // are in `train_code`.
 #![tactic(auto)]
+
 use brake::Figures;
 use motion::{Maxima, Motion, Order};
 

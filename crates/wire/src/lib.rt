@@ -1,5 +1,6 @@
 // No code: the columns of a session's lines, read and written. Document 01, "The session program". The functions are in `wire_code`.
 #![tactic(auto)]
+
 use calls::ROW;
 
 // The columns of an input line: a code, five numbers and the caller.

@@ -1,9 +1,5 @@
 -- `acts_code::call_back` meets its contract.
-use mathlib.Core.Bool.{true}
-use mathlib.Core.Path.{◌≡◌, sym, ◌∙◌}
-use borrow.Author.Tests.{not-true, not-false}
-use borrow.Author.Rules.{rules}
-use Rattle.acts.specs.Acts.{call_back_allowed}
+use mathlib.Core.Path.{sym, ◌∙◌}
 use Rattle.acts.proofs.Verdicts.{call_back_refused, call_back_taken}
 use Rattle.acts.proofs.Sentences.{call_back_computes}
 use Rattle.acts_code.proofs.call_back.Goals as goal

@@ -1,8 +1,6 @@
 -- `acts_code::call_back_allowed` meets its contract.
 use mathlib.Core.Path.{sym, ◌∙◌}
-use borrow.Author.Tests.{not-true, not-false}
 use Rattle.acts.specs.Acts.{call_back_allowed}
-use borrow.Author.Rules.{rules}
 use Rattle.acts_code.proofs.call_back_allowed.Goals as goal
 
 pub returns-then-not-is_computable : goal.returns-then-not-is_computable

@@ -1,5 +1,4 @@
 -- `acts_code::call_back_to` meets its contract.
-use borrow.Author.Rules.{rules}
 use borrow.Author.Tests.{le-leb, lt-leb}
 use Rattle.acts.specs.Acts.{called_back}
 use Rattle.acts_code.proofs.call_back_to.Goals as goal

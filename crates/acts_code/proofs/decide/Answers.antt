@@ -1,6 +1,5 @@
 -- `acts_code::decide` meets its contract.
 use Rattle.calls.specs.Checks.{first_of}
-use borrow.Author.Rules.{rules}
 use Rattle.acts_code.proofs.decide.Goals as goal
 
 pub returns-in-Report : goal.returns-in-Report

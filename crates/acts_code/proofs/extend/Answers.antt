@@ -1,9 +1,5 @@
 -- `acts_code::extend` meets its contract.
-use mathlib.Core.Bool.{true, false}
-use mathlib.Core.Path.{◌≡◌, sym, ◌∙◌}
-use borrow.Author.Tests.{not-true, not-false}
-use borrow.Author.Rules.{rules}
-use Rattle.acts.specs.Acts.{request_in_range, is_old}
+use mathlib.Core.Path.{sym, ◌∙◌}
 use Rattle.acts.proofs.Verdicts.{extend_bad, extend_old, extend_other, extend_repeat, extend_pending, extend_beyond, extend_new}
 use Rattle.acts_code.proofs.extend.Goals as goal
 

@@ -1,6 +1,5 @@
 -- `acts_code::may_leave` meets its contract.
 use Rattle.acts.specs.Acts.{may_leave}
-use borrow.Author.Rules.{rules}
 use Rattle.acts_code.proofs.may_leave.Goals as goal
 
 pub returns : goal.returns

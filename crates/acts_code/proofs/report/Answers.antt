@@ -1,9 +1,5 @@
 -- `acts_code::report` meets its contract.
-use mathlib.Core.Bool.{true}
-use mathlib.Core.Path.{◌≡◌, sym, ◌∙◌}
-use borrow.Author.Tests.{not-true, not-false}
-use borrow.Author.Rules.{rules}
-use Rattle.train.specs.Report.{report_allowed}
+use mathlib.Core.Path.{sym, ◌∙◌}
 use Rattle.acts.proofs.Verdicts.{report_refused, report_taken}
 use Rattle.acts_code.proofs.report.Goals as goal
 

@@ -1,6 +1,5 @@
 -- `acts_code::request_in_range` meets its contract.
 use Rattle.acts.specs.Acts.{request_in_range}
-use borrow.Author.Rules.{rules}
 use Rattle.acts_code.proofs.request_in_range.Goals as goal
 
 pub returns : goal.returns

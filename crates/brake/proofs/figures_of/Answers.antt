@@ -1,6 +1,5 @@
 -- The parts are the definition's, and a car of a load class has its bounds.
-use Rattle.std.proofs.Common.{◌≡◌, true, sym, ◌∙◌, arith}
-use Rattle.ranges.specs.Ranges.{length_in_range}
+use Rattle.std.proofs.Common.{sym, arith}
 use Rattle.brake.specs.Consist.{full_brake, figures_with}
 use Rattle.brake.proofs.Consist.{length_within, car_bounds, cycles_positive, figures_out, figures_none, figures_given}
 use Rattle.brake.proofs.figures_of.Goals as goal

@@ -1,5 +1,4 @@
 -- `calls_code::numbers_of` meets its contract.
-use borrow.Author.Rules.{rules}
 use Rattle.calls_code.proofs.numbers_of.Goals as goal
 
 pub returns-in-Accepted : goal.returns-in-Accepted

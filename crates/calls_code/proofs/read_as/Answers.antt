@@ -1,7 +1,6 @@
 -- `calls_code::read_as` meets its contract.
 use mathlib.Core.Path.{sym, ◌∙◌}
 use Rattle.calls.specs.Requests.{read_as}
-use borrow.Author.Rules.{rules}
 use Rattle.calls_code.proofs.read_as.Goals as goal
 
 pub returns-then-zero_from : goal.returns-then-zero_from

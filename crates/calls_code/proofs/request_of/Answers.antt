@@ -1,7 +1,6 @@
 -- `calls_code::request_of` meets its contract.
 use mathlib.Core.Path.{sym, ◌∙◌}
 use Rattle.calls_code.proofs.Requests.{code_open, code_enter, code_report, code_extend, code_call_back, code_hold, code_lift, code_take_off, code_none}
-use borrow.Author.Rules.{rules}
 use native.Mathlib.Omega.{arith}
 use Rattle.calls_code.proofs.request_of.Goals as goal
 

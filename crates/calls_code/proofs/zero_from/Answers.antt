@@ -1,11 +1,9 @@
 -- `calls_code::zero_from` meets its contract.
-use Prim.Native.Nat.{◌-◌}
 use mathlib.Core.Path.{◌≡◌, refl, sym, ◌∙◌}
 use native.Mathlib.Omega.{arith}
-use lib.ListN.{length, take}
+use lib.ListN.{length}
 use borrow.Author.Rules.{rules}
 use borrow.Author.Tests.{eq-eqb, ne_eqb}
-use Rattle.calls.specs.Requests.{zero_from, caller_place}
 use Rattle.calls_code.proofs.Requests.{zero_next, zero_end}
 use Rattle.calls_code.proofs.zero_from.Goals as goal
 

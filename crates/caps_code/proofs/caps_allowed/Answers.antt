@@ -1,6 +1,5 @@
 -- `caps_code::caps_allowed` meets its contract.
 use native.Mathlib.Omega.{arith}
-use borrow.Author.Rules.{rules}
 use Rattle.motion.proofs.Cycles.{drive_speed_gain}
 use Rattle.caps_code.proofs.caps_allowed.Goals as goal
 

@@ -14,7 +14,6 @@ use Rattle.motion.proofs.Orders.{reach_mono}
 use Rattle.caps_code.specs.declared.Gap.{Gap}
 use Rattle.caps_code.specs.Search.{Closing}
 use Rattle.caps_code.proofs.Trials.{listed_below, found, trials_left, fewer_left, trials_most}
-use Rattle.caps_code.proofs.close_in.Invariants.{Between}
 use Rattle.caps_code.proofs.close_in.Goals as goal
 
 -- a cap that keeps the goal is below one that does not

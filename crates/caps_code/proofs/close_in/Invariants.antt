@@ -1,17 +1,9 @@
-use Prim.Native.Nat.{ℕ, suc, ◌+◌, ◌-◌, ◌≤◌, ◌<◌}
-use mathlib.Core.Logic.{by_cases, inl, inr}
-use mathlib.Core.Path.{◌≡◌, refl, subst}
-use native.Mathlib.Decide.{dec_lt}
-use native.Mathlib.Omega.{arith}
+use Prim.Native.Nat.{ℕ, ◌+◌, ◌-◌, ◌≤◌}
 use Rattle.brake.specs.declared.Figures.{Figures}
 use Rattle.motion.specs.declared.Motion.{Motion}
-use Rattle.motion.specs.declared.Order.TheVariants.{Drive}
-use Rattle.motion.specs.Orders.{reach}
-use Rattle.motion.proofs.Bounds.{bounded_cap}
-use Rattle.motion.proofs.Orders.{reach_mono}
 use Rattle.caps_code.specs.declared.Gap.{Gap}
 use Rattle.caps_code.specs.Search.{Closing}
-use Rattle.caps_code.proofs.Trials.{listed_below, found, trials_left, fewer_left, trials_most}
+use Rattle.caps_code.proofs.Trials.{trials_left}
 use Rattle.caps_code.proofs.close_in.Given as goal
 
 pub record Between (k : Figures) (goal : ℕ) (m : Motion) (start gap : Gap) (trials : ℕ) : Type 0 where

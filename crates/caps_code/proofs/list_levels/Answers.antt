@@ -1,14 +1,13 @@
 -- `caps_code::list_levels` meets its contract: each number written is the entry of its place.
-use Prim.Native.Nat.{ℕ, ◌+◌, ◌-◌, ◌≤◌, ◌<◌}
+use Prim.Native.Nat.{ℕ, ◌+◌, ◌≤◌, ◌<◌}
 use mathlib.Core.Bool.{true}
 use mathlib.Core.List.{List}
 use mathlib.Core.Logic.{by_cases}
 use mathlib.Core.Path.{◌≡◌, refl, sym, ap, ◌∙◌}
 use native.Mathlib.Decide.{dec_lt}
 use native.Mathlib.Omega.{arith}
-use lib.ListN.{length, get_or, set, length-set}
+use lib.ListN.{length, set, length-set}
 use lib.Seq.{get_or-set_same, get_or-set_other, length-take-le, get_or-take}
-use borrow.Author.Rules.{rules}
 use Rattle.brake.specs.declared.Figures.{Figures}
 use Rattle.brake.specs.Consist.{Sound}
 use Rattle.logic.proofs.Tests.{by_test}
@@ -20,7 +19,7 @@ use Rattle.motion.proofs.Bounds.{braking_on}
 use Rattle.caps.specs.Levels.{level_entry}
 use Rattle.caps_code.specs.Search.{longest_list, Enough, at_full, at_stand, Room, ListedTo}
 use Rattle.caps.proofs.Levels.{list_ends, entry_none, entry_next}
-use Rattle.caps_code.proofs.list_levels.Invariants.{Written, Listing}
+use Rattle.caps_code.proofs.list_levels.Invariants.{Written}
 use Rattle.caps_code.proofs.list_levels.Goals as goal
 
 -- one number more

@@ -1,24 +1,11 @@
 use Prim.Native.Nat.{ℕ, ◌+◌, ◌-◌, ◌≤◌, ◌<◌}
-use mathlib.Core.Bool.{true}
 use mathlib.Core.List.{List}
-use mathlib.Core.Logic.{by_cases}
-use mathlib.Core.Path.{◌≡◌, refl, sym, ap, ◌∙◌}
-use native.Mathlib.Decide.{dec_lt}
-use native.Mathlib.Omega.{arith}
-use lib.ListN.{length, get_or, set, length-set}
-use lib.Seq.{get_or-set_same, get_or-set_other, length-take-le, get_or-take}
-use borrow.Author.Rules.{rules}
+use mathlib.Core.Path.{◌≡◌}
+use lib.ListN.{length, get_or}
 use Rattle.brake.specs.declared.Figures.{Figures}
-use Rattle.brake.specs.Consist.{Sound}
-use Rattle.logic.proofs.Tests.{by_test}
-use Rattle.motion.specs.Motion.{brake_speed, next_level, stands, Cycle, braked_run}
+use Rattle.motion.specs.Motion.{braked_run}
 use Rattle.motion.specs.Bounds.{Braking}
-use Rattle.motion.proofs.Cycles.{moved_before}
-use Rattle.motion.proofs.Runs.{run_stands, run_moves}
-use Rattle.motion.proofs.Bounds.{braking_on}
 use Rattle.caps.specs.Levels.{level_entry}
-use Rattle.caps_code.specs.Search.{longest_list, Enough, at_full, at_stand, Room, ListedTo}
-use Rattle.caps.proofs.Levels.{list_ends, entry_none, entry_next}
 use Rattle.caps_code.proofs.list_levels.Given as goal
 
 -- the numbers before place n are written

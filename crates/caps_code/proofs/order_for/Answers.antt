@@ -2,7 +2,6 @@
 use Prim.Native.Nat.{◌+◌, ◌-◌}
 use mathlib.Core.Path.{subst}
 use native.Mathlib.Omega.{arith}
-use borrow.Author.Rules.{rules}
 use Rattle.motion.proofs.Bounds.{bounded_cap}
 use Rattle.caps_code.specs.Search.{CapsAllowed}
 use Rattle.caps_code.proofs.Trials.{none_allowed, some_allowed}

@@ -1,6 +1,5 @@
 -- `caps_code::reads_few` meets its contract: a short list of a consist ends with B, or goes as far as the run.
 use native.Mathlib.Omega.{arith}
-use borrow.Author.Rules.{rules}
 use borrow.Author.Tests.{leb-true}
 use Rattle.caps.proofs.Levels.{entry_full, list_ends, slow_run}
 use Rattle.caps_code.specs.Search.{at_full, at_stand}

@@ -1,7 +1,6 @@
 -- `caps_code::search` meets its contract.
 use native.Mathlib.Omega.{arith}
 use lib.ListN.{length-take}
-use borrow.Author.Rules.{rules}
 use Rattle.motion.specs.declared.Order.TheVariants.{Drive}
 use Rattle.motion.proofs.Bounds.{bounded_cap, worst_braking}
 use Rattle.caps_code.proofs.Trials.{listed_below, none_found}

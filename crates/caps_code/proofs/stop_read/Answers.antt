@@ -1,16 +1,12 @@
 -- `caps_code::stop_read` meets its contract: the level read in each cycle is the brake's, and the run is summed up by its speeds.
-use Prim.Native.Nat.{ℕ, ◌+◌, ◌-◌, ◌≤◌}
+use Prim.Native.Nat.{◌+◌}
 use mathlib.Core.Path.{◌≡◌, sym, ◌∙◌}
 use native.Mathlib.Omega.{arith}
-use lib.ListN.{length, get_or}
-use borrow.Author.Rules.{rules}
-use Rattle.brake.specs.declared.Figures.{Figures}
 use Rattle.motion.specs.Motion.{brake_speed, stopping_distance}
 use Rattle.motion.proofs.Bounds.{stop_fits}
 use Rattle.motion_code.proofs.Summing.{Summed, summed_none, summed_on, summed_gone, summed_rest, summed_last}
 use Rattle.caps.specs.Levels.{level_entry}
 use Rattle.caps.proofs.Levels.{entry_none, entry_next, read_stop}
-use Rattle.caps_code.proofs.stop_read.Invariants.{Reading}
 use Rattle.caps_code.proofs.stop_read.Goals as goal
 
 pub loop-cycle-init : goal.loop-cycle-init

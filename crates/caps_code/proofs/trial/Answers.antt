@@ -1,9 +1,7 @@
 -- `caps_code::trial` meets its contract.
 use native.Mathlib.Omega.{arith}
-use borrow.Author.Rules.{rules}
 use Rattle.motion.specs.declared.Order.TheVariants.{Drive}
 use Rattle.motion.specs.Orders.{worst_case, stopping_place}
-use Rattle.motion.specs.Bounds.{Braking}
 use Rattle.motion.proofs.Bounds.{worst_head, worst_braking, stop_fits}
 use Rattle.caps.proofs.Levels.{read_stop}
 use Rattle.caps_code.proofs.trial.Goals as goal

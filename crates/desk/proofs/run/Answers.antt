@@ -1,9 +1,7 @@
-use Prim.Native.Nat.{◌-◌, ◌≤◌}
 use native.Mathlib.Omega.{arith}
 use mathlib.Core.Path.{◌≡◌, refl, ap, ◌∙◌}
 use lib.ListN.{length, length-take}
 use borrow.Author.Rules.{rules}
-use Rattle.stream.specs.Input.{kept_width}
 use Rattle.desk.proofs.run.Goals as goal
 
 -- nothing has begun at the start

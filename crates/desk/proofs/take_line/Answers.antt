@@ -1,8 +1,6 @@
 -- `desk::take_line` meets its contract.
-use mathlib.Core.Path.{◌≡◌, ap, ◌∙◌}
-use borrow.Author.Rules.{rules}
+use mathlib.Core.Path.{ap, ◌∙◌}
 use Rattle.desk_line.specs.declared.DeskReply.{DeskReply}
-use Rattle.desk_line.specs.Desk.{desk_answered}
 use Rattle.desk_line.specs.Columns.{desk_line}
 use Rattle.desk_line_code.proofs.Columns.{line_whole}
 use Rattle.desk.proofs.take_line.Goals as goal

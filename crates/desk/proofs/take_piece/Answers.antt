@@ -1,10 +1,9 @@
-use Prim.Native.Nat.{◌-◌, ◌≤◌}
+use Prim.Native.Nat.{◌≤◌}
 use native.Mathlib.Omega.{arith}
-use mathlib.Core.Path.{◌≡◌, refl, sym, ap, ◌∙◌}
-use lib.ListN.{length, take, length-take}
+use mathlib.Core.Path.{◌≡◌, refl, sym, ap}
+use lib.ListN.{length, length-take}
 use borrow.Author.Rules.{rules}
-use Rattle.desk_line.specs.Columns.{desk_width}
-use Rattle.desk.proofs.Turns.{Standing, standing, Taking, line_taken, piece_taken}
+use Rattle.desk.proofs.Turns.{Standing, line_taken, piece_taken}
 use Rattle.desk.proofs.take_piece.Goals as goal
 
 pub loop-to-init : goal.loop-to-init

@@ -1,10 +1,8 @@
-use Prim.Native.Nat.{◌-◌, ◌≤◌}
-use native.Mathlib.Omega.{arith}
-use mathlib.Core.Path.{◌≡◌, refl, sym, ap, ◌∙◌}
-use lib.ListN.{length, take, length-take}
-use borrow.Author.Rules.{rules}
+use Prim.Native.Nat.{◌-◌}
+use mathlib.Core.Path.{◌≡◌}
+use lib.ListN.{length, take}
 use Rattle.desk_line.specs.Columns.{desk_width}
-use Rattle.desk.proofs.Turns.{Standing, standing, Taking, line_taken, piece_taken}
+use Rattle.desk.proofs.Turns.{standing, Taking}
 use Rattle.desk.proofs.take_piece.Given as goal
 
 abbrev pub invariant-loop-to : goal.invariant-loop-to

@@ -6,7 +6,6 @@ use Rattle.stream.specs.declared.Session.{Session}
 use Rattle.desk_line.specs.declared.DeskRead.{DeskRead}
 use Rattle.desk_line.specs.declared.DeskReply.{DeskReply}
 use Rattle.desk_line.specs.Desk.{shown_at, left_at}
-use borrow.Author.Rules.{rules}
 use Rattle.desk_line_code.proofs.answer.Goals as goal
 
 -- what comes of a line that asks this

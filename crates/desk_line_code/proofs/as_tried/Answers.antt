@@ -1,5 +1,4 @@
 -- `desk_line_code::as_tried` meets its contract.
-use borrow.Author.Rules.{rules}
 use Rattle.desk_line_code.proofs.as_tried.Goals as goal
 
 pub returns-in-Read : goal.returns-in-Read

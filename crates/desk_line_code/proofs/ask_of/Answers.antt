@@ -1,6 +1,5 @@
 -- `desk_line_code::ask_of` meets its contract.
 use borrow.Author.Tests.{le-leb, lt-leb}
-use borrow.Author.Rules.{rules}
 use Rattle.desk_line.specs.Desk.{desk_ask}
 use Rattle.desk_line_code.proofs.ask_of.Goals as goal
 

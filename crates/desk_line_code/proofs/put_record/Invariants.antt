@@ -1,14 +1,8 @@
-use Prim.Native.Nat.{ℕ, ◌+◌, ◌-◌, ◌*◌, ◌≤◌}
-use native.Mathlib.Omega.{arith}
-use mathlib.Core.Path.{◌≡◌, refl, ap, ◌∙◌}
-use mathlib.Core.List.{List}
-use lib.ListN.{length, get_or}
-use lib.Seq.{paste, paste-zero, length-paste, take_all}
-use borrow.Author.Rules.{rules}
-use Rattle.wire.specs.Format.{text, text_of}
-use Rattle.wire.proofs.RoundTrip.{text_long}
-use Rattle.desk_line.specs.Columns.{record_columns}
-use Rattle.desk_line_code.proofs.Columns.{first_text, put_next}
+use Prim.Native.Nat.{◌-◌, ◌*◌, ◌≤◌}
+use mathlib.Core.Path.{◌≡◌}
+use lib.ListN.{length}
+use lib.Seq.{paste}
+use Rattle.desk_line_code.proofs.Columns.{first_text}
 use Rattle.desk_line_code.proofs.put_record.Given as goal
 
 -- the first i numbers are written

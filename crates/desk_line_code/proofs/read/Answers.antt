@@ -1,6 +1,5 @@
 -- `desk_line_code::read` meets its contract.
 use mathlib.Core.Path.{sym, ap, ◌∙◌}
-use borrow.Author.Rules.{rules}
 use Rattle.wire_code.proofs.Rows.{row_unread, row_read}
 use Rattle.desk_line.specs.Desk.{desk_ask_by, desk_read}
 use Rattle.desk_line_code.proofs.read.Goals as goal

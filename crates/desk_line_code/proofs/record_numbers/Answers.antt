@@ -1,5 +1,4 @@
 -- `desk_line_code::record_numbers` meets its contract.
-use borrow.Author.Rules.{rules}
 use Rattle.desk_line_code.proofs.record_numbers.Goals as goal
 
 pub returns : goal.returns

@@ -2,7 +2,6 @@
 use mathlib.Core.Path.{sym, ap, ◌∙◌}
 use Rattle.line.specs.Preview.{shown}
 use Rattle.desk_line.specs.Desk.{shown_at}
-use borrow.Author.Rules.{rules}
 use Rattle.desk_line_code.proofs.try_out.Goals as goal
 
 pub returns-then-both : goal.returns-then-both

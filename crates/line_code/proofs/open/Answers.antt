@@ -1,5 +1,4 @@
 -- `line_code::open` meets its contract.
-use borrow.Author.Rules.{rules}
 use Rattle.line_code.proofs.open.Goals as goal
 
 pub returns : goal.returns

@@ -1,5 +1,4 @@
 -- `line_code::preview` meets its contract.
-use borrow.Author.Rules.{rules}
 use Rattle.line_code.proofs.preview.Goals as goal
 
 pub returns : goal.returns

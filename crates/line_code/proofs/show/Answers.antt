@@ -1,5 +1,4 @@
 -- `line_code::show` meets its contract.
-use borrow.Author.Rules.{rules}
 use Rattle.line_code.proofs.show.Goals as goal
 
 pub returns : goal.returns

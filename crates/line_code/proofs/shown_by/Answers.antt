@@ -1,5 +1,4 @@
 -- `line_code::shown_by` meets its contract.
-use borrow.Author.Rules.{rules}
 use Rattle.line_code.proofs.shown_by.Goals as goal
 
 pub returns-in-Put : goal.returns-in-Put

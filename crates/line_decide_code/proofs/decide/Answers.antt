@@ -3,7 +3,6 @@ use mathlib.Core.Path.{ap, ◌∙◌}
 use Prim.Native.Nat.{ℕ}
 use Rattle.table.specs.Table.{place_of}
 use Rattle.table_code.specs.Search.{found}
-use borrow.Author.Rules.{rules}
 use Rattle.line_decide_code.proofs.decide.Goals as goal
 
 pub decide_found-requires : goal.decide_found-requires

@@ -1,6 +1,5 @@
 -- `line_decide_code::decide_ask` meets its contract.
 use Rattle.line.specs.Decide.{decide_on}
-use borrow.Author.Rules.{rules}
 use Rattle.line_decide_code.proofs.decide_ask.Goals as goal
 
 pub decide_call-requires : goal.decide_call-requires

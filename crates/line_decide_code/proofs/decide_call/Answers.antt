@@ -1,5 +1,4 @@
 -- `line_decide_code::decide_call` meets its contract.
-use borrow.Author.Rules.{rules}
 use Rattle.line_decide_code.proofs.decide_call.Goals as goal
 
 -- the search was for the train that this call names

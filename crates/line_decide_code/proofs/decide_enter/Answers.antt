@@ -1,13 +1,7 @@
 -- `line_decide_code::decide_enter` meets its contract.
-use mathlib.Core.Bool.{◌&&◌}
-use mathlib.Core.Path.{◌≡◌, sym, ◌∙◌}
-use borrow.Author.Tests.{not-true, not-false}
-use Rattle.ranges.specs.Ranges.{id_in_range, start_in_range}
-use Rattle.brake.specs.declared.FiguresFound.TheVariants.{Given}
+use mathlib.Core.Path.{sym, ◌∙◌}
 use Rattle.brake.proofs.Consist.{given_length}
-use Rattle.train.specs.Record.{figures_for}
 use Rattle.line.proofs.Steps.{enter_unfit, enter_fit, enter_bad}
-use borrow.Author.Rules.{rules}
 use Rattle.line_decide_code.proofs.decide_enter.Goals as goal
 
 pub returns-then-not-both : goal.returns-then-not-both

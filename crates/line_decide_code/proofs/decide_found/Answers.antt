@@ -1,8 +1,6 @@
 -- `line_decide_code::decide_found` meets its contract.
 use mathlib.Core.Path.{sym, ◌∙◌}
-use borrow.Author.Tests.{not-true, not-false}
 use Rattle.line.specs.Decide.{decided}
-use borrow.Author.Rules.{rules}
 use Rattle.line_decide_code.proofs.decide_found.Goals as goal
 
 pub returns-then-out_of_turn : goal.returns-then-out_of_turn

@@ -1,8 +1,6 @@
 -- `line_decide_code::decide_open` meets its contract.
 use mathlib.Core.Path.{sym, ◌∙◌}
-use borrow.Author.Tests.{not-true, not-false}
 use Rattle.line.proofs.Steps.{open_taken, open_refused}
-use borrow.Author.Rules.{rules}
 use Rattle.line_decide_code.proofs.decide_open.Goals as goal
 
 pub returns-then-not-settings_in_range : goal.returns-then-not-settings_in_range

@@ -5,7 +5,6 @@ use Rattle.line.specs.Decide.{decide_on}
 use Rattle.line.proofs.Steps.{own_unknown, placed, own_found}
 use Rattle.calls.specs.declared.Call.TheVariants.{Own}
 use Rattle.calls.specs.declared.Ask.TheVariants.{OnTable}
-use borrow.Author.Rules.{rules}
 use Rattle.line_decide_code.proofs.decide_own.Goals as goal
 
 pub returns-in_default : goal.returns-in_default

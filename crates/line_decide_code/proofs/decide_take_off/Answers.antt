@@ -1,11 +1,7 @@
 -- `line_decide_code::decide_take_off` meets its contract.
 use mathlib.Core.Path.{sym, ◌∙◌}
-use borrow.Author.Tests.{not-true, not-false}
-use Rattle.table.specs.Table.{place_of}
-use Rattle.table.proofs.Places.{FoundAt}
 use Rattle.table_code.proofs.Places.{none_found, one_found}
 use Rattle.line.proofs.Steps.{take_off_unknown, take_off_refused, take_off_taken}
-use borrow.Author.Rules.{rules}
 use Rattle.line_decide_code.proofs.decide_take_off.Goals as goal
 
 pub returns-in_default : goal.returns-in_default

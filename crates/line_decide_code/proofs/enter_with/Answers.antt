@@ -1,15 +1,12 @@
 -- `line_decide_code::enter_with` meets its contract.
 use Prim.Native.Nat.{min}
-use mathlib.Core.Option.{none}
 use mathlib.Core.Path.{◌≡◌, sym, ◌∙◌}
 use native.Mathlib.Nat.{add-zero}
 use native.Mathlib.Omega.{arith}
-use borrow.Author.Tests.{not-true, not-false}
 use Rattle.train.specs.Track.{within_limit}
 use Rattle.table_code.proofs.Places.{none_found, one_found}
-use Rattle.table.specs.Table.{place_of, limit_at}
+use Rattle.table.specs.Table.{limit_at}
 use Rattle.line.proofs.Steps.{enter_known, enter_full, enter_short, enter_beyond, enter_taken}
-use borrow.Author.Rules.{rules}
 use Rattle.line_decide_code.proofs.enter_with.Goals as goal
 
 pub returns-then-n-ge-PLACES : goal.returns-then-n-ge-PLACES

@@ -3,7 +3,6 @@ use Prim.Native.Nat.{ℕ, ◌*◌, ◌≤◌}
 use mathlib.Core.Path.{sym}
 use native.Mathlib.Nat.{mul-le-mul}
 use native.Mathlib.Omega.{arith}
-use borrow.Author.Rules.{rules}
 use Rattle.logic.specs.Rounding.{ceil_div}
 use Rattle.brake.specs.Consist.{greatest_full}
 use Rattle.motion.proofs.Cycles.{travel_on, travel_last}

@@ -1,6 +1,5 @@
 -- `motion_code::drive_travel` meets its contract.
 use mathlib.Core.Path.{refl}
-use borrow.Author.Rules.{rules}
 use Rattle.motion.specs.Motion.{drive_travel}
 use Rattle.motion_code.proofs.drive_travel.Goals as goal
 

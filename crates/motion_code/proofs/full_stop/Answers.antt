@@ -1,12 +1,9 @@
 -- `motion_code::full_stop` meets its contract: full brake stays full, and the run is summed up by its speeds.
-use Prim.Native.Nat.{ℕ, ◌+◌}
-use mathlib.Core.Bool.{false}
+use Prim.Native.Nat.{◌+◌}
 use mathlib.Core.Path.{◌≡◌, sym, ◌∙◌}
 use native.Mathlib.Omega.{arith}
-use borrow.Author.Rules.{rules}
-use borrow.Author.Tests.{not-true, not-false}
 use Rattle.brake.specs.declared.Figures.{Figures}
-use Rattle.motion.specs.Motion.{brake_speed, next_level, stands, enough_cycles, stopping_distance}
+use Rattle.motion.specs.Motion.{brake_speed, next_level, stopping_distance}
 use Rattle.motion.proofs.Sentences.{level_full}
 use Rattle.motion.proofs.Cycles.{moved_before}
 use Rattle.motion.proofs.Runs.{fewer}

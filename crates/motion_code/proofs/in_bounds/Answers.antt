@@ -1,5 +1,4 @@
 -- `motion_code::in_bounds` meets its contract.
-use borrow.Author.Rules.{rules}
 use Rattle.motion.specs.Bounds.{in_bounds}
 use Rattle.motion_code.proofs.in_bounds.Goals as goal
 

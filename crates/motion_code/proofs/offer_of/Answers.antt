@@ -1,5 +1,4 @@
 -- `motion_code::offer_of` meets its contract.
-use borrow.Author.Rules.{rules}
 use Rattle.motion_code.proofs.offer_of.Goals as goal
 
 pub returns : goal.returns

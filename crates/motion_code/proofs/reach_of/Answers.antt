@@ -1,8 +1,6 @@
 -- `motion_code::reach_of` meets its contract.
 use native.Mathlib.Omega.{arith}
-use borrow.Author.Rules.{rules}
-use Rattle.motion.specs.Orders.{worst_case, stopping_place}
-use Rattle.motion.specs.Bounds.{Braking}
+use Rattle.motion.specs.Orders.{stopping_place}
 use Rattle.motion.proofs.Bounds.{worst_head, worst_braking, stop_fits}
 use Rattle.motion_code.proofs.reach_of.Goals as goal
 

@@ -1,13 +1,9 @@
 -- `motion_code::stopping_distance` meets its contract: while the level grows the run is summed up by its speeds, and what is left from full brake
 -- on is `full_stop`'s.
-use Prim.Native.Nat.{ℕ, ◌+◌}
-use mathlib.Core.Bool.{false}
+use Prim.Native.Nat.{◌+◌}
 use mathlib.Core.Path.{◌≡◌, sym, ◌∙◌}
 use native.Mathlib.Omega.{arith}
-use borrow.Author.Rules.{rules}
-use borrow.Author.Tests.{not-true, not-false}
-use Rattle.brake.specs.declared.Figures.{Figures}
-use Rattle.motion.specs.Motion.{brake_speed, next_level, stands, enough_cycles, stopping_distance}
+use Rattle.motion.specs.Motion.{stopping_distance}
 use Rattle.motion.proofs.Sentences.{level_grows, level_full}
 use Rattle.motion.proofs.Cycles.{moved_before}
 use Rattle.motion.proofs.Runs.{fewer}

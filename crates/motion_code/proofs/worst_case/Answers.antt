@@ -1,10 +1,9 @@
 -- `motion_code::worst_case` meets its contract.
 use mathlib.Core.Path.{subst}
 use native.Mathlib.Omega.{arith}
-use borrow.Author.Rules.{rules}
 use Rattle.motion.specs.declared.Order.{Order}
 use Rattle.motion.specs.Orders.{order_cap}
-use Rattle.motion.specs.Bounds.{Driving, Bounded}
+use Rattle.motion.specs.Bounds.{Bounded}
 use Rattle.motion.proofs.Bounds.{driving, drive_travel_fits, brake_travel_fits}
 use Rattle.motion_code.proofs.worst_case.Goals as goal
 

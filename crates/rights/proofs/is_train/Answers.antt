@@ -1,5 +1,4 @@
 -- `rights::is_train` meets its contract.
-use borrow.Author.Rules.{rules}
 use Rattle.rights.proofs.is_train.Goals as goal
 
 pub returns : goal.returns

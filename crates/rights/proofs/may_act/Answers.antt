@@ -1,6 +1,5 @@
 -- `rights::may_act` meets its contract.
 use Rattle.rights.specs.Rights.{may_ask}
-use borrow.Author.Rules.{rules}
 use Rattle.rights.proofs.may_act.Goals as goal
 
 pub returns-in-Report : goal.returns-in-Report

@@ -1,6 +1,5 @@
 -- `rights::may_ask` meets its contract.
 use Rattle.rights.specs.Rights.{may_ask}
-use borrow.Author.Rules.{rules}
 use Rattle.rights.proofs.may_ask.Goals as goal
 
 pub returns-in-Open : goal.returns-in-Open

@@ -1,6 +1,5 @@
 -- `rights::may_call` meets its contract.
 use Rattle.rights.specs.Rights.{may_ask}
-use borrow.Author.Rules.{rules}
 use Rattle.rights.proofs.may_call.Goals as goal
 
 pub returns-in-Enter : goal.returns-in-Enter

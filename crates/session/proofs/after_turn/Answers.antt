@@ -1,7 +1,7 @@
 -- `session::after_turn` meets its contract.
 use native.Mathlib.Omega.{arith}
 use mathlib.Core.Path.{◌≡◌, refl, sym}
-use mathlib.Core.Bool.{Bool, true, false, not, true≢false}
+use mathlib.Core.Bool.{Bool, true, false, true≢false}
 use Prim.Native.Nat.{ℕ, zero, suc, ◌<◌}
 use Rattle.session.specs.declared.Stop.TheVariants.{NotWritten}
 use Rattle.session.specs.declared.Next.TheVariants.{More, Done}

@@ -1,5 +1,4 @@
 -- There is room: the last answer is written.
-use lib.ListN.{length}
 use Rattle.stream.specs.Input.{last_answer, begun}
 use Rattle.stream.proofs.Bytes.{over_first}
 use Rattle.stream.proofs.Pieces.{last_taken}

@@ -2,9 +2,7 @@ use native.Mathlib.Omega.{arith}
 use mathlib.Core.Path.{◌≡◌, refl, sym, ap, ◌∙◌}
 use mathlib.Core.Bool.{Bool, true, false, true≢false}
 use mathlib.Core.List.{List, [], ◌++◌}
-use mathlib.Core.Logic.{◌⊎◌, inl, inr}
 use Prim.Native.Nat.{ℕ}
-use borrow.Author.Rules.{rules}
 use Rattle.stream.specs.Input.{last_answer, begun}
 use Rattle.stream.proofs.Pieces.{pieces_led, pieces_written}
 use Rattle.session.specs.declared.Stop.{Stop}

@@ -1,5 +1,5 @@
 -- There is room: the piece is taken.
-use Rattle.std.proofs.Common.{◌≡◌, ℕ, ◌≤◌, ◌*◌, Bool, true, false, not, Option, None, Some, IfSome, refl, arith, length, take}
+use Rattle.std.proofs.Common.{◌≡◌, ℕ, ◌≤◌, ◌*◌, Bool, true, false, not, Option, None, Some, IfSome, arith, length, take}
 use Rattle.std.specs.Option.{is_some, unwrap_or}
 use lib.ListN.{length-take}
 use Rattle.stream.specs.Input.{output_width, answers_to}

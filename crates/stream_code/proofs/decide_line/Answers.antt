@@ -1,7 +1,6 @@
 -- `stream_code::decide_line` meets its contract.
 use mathlib.Core.Path.{sym, ap, ◌∙◌}
 use Rattle.stream.specs.Session.{line_decision}
-use borrow.Author.Rules.{rules}
 use Rattle.stream_code.proofs.decide_line.Goals as goal
 
 pub returns-in-Read : goal.returns-in-Read

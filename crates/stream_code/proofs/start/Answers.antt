@@ -1,6 +1,5 @@
 -- `stream_code::start` meets its contract.
 use mathlib.Core.Path.{refl}
-use borrow.Author.Rules.{rules}
 use Rattle.stream_code.proofs.start.Goals as goal
 
 pub returns : goal.returns

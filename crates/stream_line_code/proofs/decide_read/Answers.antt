@@ -4,7 +4,6 @@ use mathlib.Core.Path.{sym, ap, subst, ◌∙◌}
 use Rattle.table.specs.Table.{place_of}
 use Rattle.table_code.specs.Search.{found, Ended}
 use Rattle.stream.specs.Session.{line_decision}
-use borrow.Author.Rules.{rules}
 use Rattle.stream_line_code.proofs.decide_read.Goals as goal
 
 pub found_at-f-requires : goal.found_at-f-requires

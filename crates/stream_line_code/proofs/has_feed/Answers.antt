@@ -1,9 +1,8 @@
 -- `stream_line_code::has_feed` meets its contract.
-use Prim.Native.Nat.{ℕ, ◌+◌, ◌-◌, ◌≤◌}
+use Prim.Native.Nat.{ℕ, ◌+◌}
 use native.Mathlib.Omega.{arith}
 use mathlib.Core.Path.{◌≡◌, sym, subst, ◌∙◌}
-use mathlib.Core.Bool.{false, true≢false}
-use mathlib.Core.Logic.{⊎_elim}
+use mathlib.Core.Bool.{true≢false}
 use Rattle.stream_line_code.specs.Feeds.{NoFeed}
 use Rattle.stream_line_code.proofs.Feeds.{none_more}
 use Rattle.stream_line_code.proofs.has_feed.Goals as goal

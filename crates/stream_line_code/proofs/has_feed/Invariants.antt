@@ -1,10 +1,7 @@
-use Prim.Native.Nat.{ℕ, ◌+◌, ◌-◌, ◌≤◌}
-use native.Mathlib.Omega.{arith}
-use mathlib.Core.Path.{◌≡◌, sym, subst, ◌∙◌}
-use mathlib.Core.Bool.{false, true≢false}
-use mathlib.Core.Logic.{⊎_elim}
+use Prim.Native.Nat.{◌+◌, ◌-◌, ◌≤◌}
+use mathlib.Core.Path.{◌≡◌}
+use mathlib.Core.Bool.{false}
 use Rattle.stream_line_code.specs.Feeds.{NoFeed}
-use Rattle.stream_line_code.proofs.Feeds.{none_more}
 use Rattle.stream_line_code.proofs.has_feed.Given as goal
 
 abbrev pub invariant-loop-i : goal.invariant-loop-i

@@ -1,9 +1,5 @@
 -- `stream_line_code::line_end` meets its contract.
-use Prim.Native.Nat.{◌-◌, ◌≤◌}
 use native.Mathlib.Omega.{arith}
-use lib.ListN.{length}
-use borrow.Author.Rules.{rules}
-use Rattle.stream_line_code.specs.Feeds.{NoFeed}
 use Rattle.stream_line_code.proofs.Feeds.{none_more}
 use Rattle.stream_line_code.proofs.line_end.Goals as goal
 

@@ -1,9 +1,6 @@
 use Prim.Native.Nat.{◌-◌, ◌≤◌}
-use native.Mathlib.Omega.{arith}
 use lib.ListN.{length}
-use borrow.Author.Rules.{rules}
 use Rattle.stream_line_code.specs.Feeds.{NoFeed}
-use Rattle.stream_line_code.proofs.Feeds.{none_more}
 use Rattle.stream_line_code.proofs.line_end.Given as goal
 
 abbrev pub invariant-loop-i : goal.invariant-loop-i

@@ -1,8 +1,6 @@
 -- `stream_line_code::past_blocks` meets its contract.
-use Prim.Native.Nat.{◌+◌, ◌-◌, ◌≤◌}
+use Prim.Native.Nat.{◌+◌}
 use native.Mathlib.Omega.{arith}
-use lib.ListN.{length}
-use Rattle.stream_line_code.specs.Feeds.{NoFeed}
 use Rattle.stream_line_code.proofs.Feeds.{none_yet, none_joined}
 use Rattle.stream_line_code.proofs.past_blocks.Goals as goal
 

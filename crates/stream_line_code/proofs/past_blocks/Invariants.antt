@@ -1,8 +1,6 @@
-use Prim.Native.Nat.{◌+◌, ◌-◌, ◌≤◌}
-use native.Mathlib.Omega.{arith}
+use Prim.Native.Nat.{◌-◌, ◌≤◌}
 use lib.ListN.{length}
 use Rattle.stream_line_code.specs.Feeds.{NoFeed}
-use Rattle.stream_line_code.proofs.Feeds.{none_yet, none_joined}
 use Rattle.stream_line_code.proofs.past_blocks.Given as goal
 
 abbrev pub invariant-loop-i : goal.invariant-loop-i

@@ -1,15 +1,13 @@
 -- `stream_line_code::push_all` meets its contract.
-use Prim.Native.Nat.{ℕ, ◌+◌, ◌-◌, ◌≤◌, ◌<◌}
+use Prim.Native.Nat.{◌+◌, ◌<◌}
 use native.Mathlib.Omega.{arith}
 use mathlib.Core.Path.{◌≡◌, refl, ◌∙◌}
-use mathlib.Core.List.{List, ◌++◌}
 use lib.ListN.{length, take, get_or, length-set}
 use lib.Seq.{length-take-le}
 use borrow.Author.Tests.{ltb-true, ltb-false}
-use Rattle.stream.specs.Input.{kept_width, kept}
+use Rattle.stream.specs.Input.{kept_width}
 use Rattle.stream.proofs.Bytes.{keep_more}
 use Rattle.stream_line_code.proofs.Kept.{kept_first, kept_more, kept_full, kept_all}
-use Rattle.stream_line_code.proofs.push_all.Invariants.{Pushing}
 use Rattle.stream_line_code.proofs.push_all.Goals as goal
 
 pub loop-i-init : goal.loop-i-init

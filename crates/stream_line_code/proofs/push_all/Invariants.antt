@@ -1,13 +1,8 @@
-use Prim.Native.Nat.{ℕ, ◌+◌, ◌-◌, ◌≤◌, ◌<◌}
-use native.Mathlib.Omega.{arith}
-use mathlib.Core.Path.{◌≡◌, refl, ◌∙◌}
+use Prim.Native.Nat.{ℕ, ◌-◌, ◌≤◌}
+use mathlib.Core.Path.{◌≡◌}
 use mathlib.Core.List.{List, ◌++◌}
-use lib.ListN.{length, take, get_or, length-set}
-use lib.Seq.{length-take-le}
-use borrow.Author.Tests.{ltb-true, ltb-false}
+use lib.ListN.{length, take}
 use Rattle.stream.specs.Input.{kept_width, kept}
-use Rattle.stream.proofs.Bytes.{keep_more}
-use Rattle.stream_line_code.proofs.Kept.{kept_first, kept_more, kept_full, kept_all}
 use Rattle.stream_line_code.proofs.push_all.Given as goal
 
 -- after i bytes of the part

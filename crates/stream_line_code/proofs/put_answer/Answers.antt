@@ -5,7 +5,6 @@ use lib.Dec.{eqb}
 use lib.Seq.{paste}
 use Rattle.calls.specs.declared.Numbers.{Numbers}
 use Rattle.stream.specs.Input.{output_line, output_width}
-use borrow.Author.Rules.{rules}
 use Rattle.stream_line_code.proofs.put_answer.Goals as goal
 
 pub returns : goal.returns

@@ -3,7 +3,6 @@ use Prim.Native.Nat.{◌+◌}
 use native.Mathlib.Omega.{arith}
 use lib.ListN.{length}
 use borrow.Author.Tests.{le-leb}
-use borrow.Author.Rules.{rules}
 use Rattle.wire.specs.Format.{answer_width}
 use Rattle.stream.proofs.Bytes.{line_ended}
 use Rattle.stream_line_code.proofs.put_line.Goals as goal

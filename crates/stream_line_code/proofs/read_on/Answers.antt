@@ -4,7 +4,6 @@ use native.Mathlib.Omega.{arith}
 use mathlib.Core.Path.{sym, ap, ◌∙◌}
 use mathlib.Core.List.{◌++◌}
 use lib.ListN.{take, length-take}
-use borrow.Author.Rules.{rules}
 use Rattle.wire.specs.Format.{line_read}
 use Rattle.stream.specs.Input.{kept_width}
 use Rattle.stream.proofs.Lines.{read_kept}

@@ -1,17 +1,15 @@
 -- `stream_piece_code::feed_all` meets its contract. What a turn of its loop does is a law in Feeding; the search and the moving up are laws of
-use Prim.Native.Nat.{ℕ, min, ◌+◌, ◌-◌, ◌*◌, ◌^◌, ◌≤◌, ◌<◌}
+use Prim.Native.Nat.{ℕ, min, ◌+◌, ◌*◌, ◌≤◌, ◌<◌}
 use native.Mathlib.Omega.{arith}
 use mathlib.Core.Path.{◌≡◌, refl, sym, ap, subst, ◌∙◌}
 use mathlib.Core.Bool.{Bool}
-use mathlib.Core.Logic.{⊎_elim}
 use mathlib.Core.List.{List, []}
-use lib.ListN.{length, take, drop, length-set}
+use lib.ListN.{length, length-set}
 use borrow.Author.Rules.{rules}
-use borrow.Author.Tests.{eqb-true, eqb-false, not-true, not-false}
 use Rattle.table.specs.declared.Table.{Table}
-use Rattle.table.specs.Table.{places, on_line, place_in, place_of, train_at, changed, Fits}
+use Rattle.table.specs.Table.{places, place_of, train_at, changed, Fits}
 use Rattle.table_code.specs.Search.{Ended}
-use Rattle.table_code.proofs.Places.{long, find_next, search_ended, moved_up, moved_on, moved_all, moved_long}
+use Rattle.table_code.proofs.Places.{long, find_next, search_ended, moved_on, moved_all, moved_long}
 use Rattle.wire.specs.Format.{line_read}
 use Rattle.stream.specs.Session.{session, line_decision}
 use Rattle.stream.specs.Input.{output_width}

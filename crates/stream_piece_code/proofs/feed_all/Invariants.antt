@@ -1,23 +1,12 @@
-use Prim.Native.Nat.{ℕ, min, ◌+◌, ◌-◌, ◌^◌, ◌≤◌, ◌<◌}
-use native.Mathlib.Omega.{arith}
-use mathlib.Core.Path.{◌≡◌, refl, sym, ap, subst, ◌∙◌}
-use mathlib.Core.Bool.{Bool}
-use mathlib.Core.Logic.{⊎_elim}
-use mathlib.Core.List.{List, []}
-use lib.ListN.{length, take, drop, length-set}
-use borrow.Author.Rules.{rules}
-use borrow.Author.Tests.{eqb-true, eqb-false, not-true, not-false}
-use Rattle.table.specs.declared.Table.{Table}
-use Rattle.table.specs.Table.{places, on_line, place_in, place_of, train_at, changed, Fits}
-use Rattle.table_code.specs.Search.{Ended}
-use Rattle.table_code.proofs.Places.{long, find_next, search_ended, moved_up, moved_on, moved_all, moved_long}
-use Rattle.wire.specs.Format.{line_read}
-use Rattle.stream.specs.Session.{session, line_decision}
-use Rattle.stream.specs.Input.{output_width}
-use Rattle.stream.proofs.Bytes.{keep_first}
-use Rattle.stream.proofs.Lines.{standing, line_fits}
-use Rattle.stream_line_code.specs.Named.{id_read}
-use Rattle.stream_piece_code.proofs.Feeding.{line_from, Feeding, line_room, line_fed, piece_fed}
+use Prim.Native.Nat.{◌-◌, ◌≤◌}
+use mathlib.Core.Path.{◌≡◌}
+use mathlib.Core.List.{[]}
+use lib.ListN.{length, take, drop}
+use Rattle.table.specs.Table.{on_line, place_in, place_of}
+use Rattle.table_code.proofs.Places.{moved_up}
+use Rattle.stream.specs.Session.{session}
+use Rattle.stream.proofs.Lines.{standing}
+use Rattle.stream_piece_code.proofs.Feeding.{Feeding}
 use Rattle.stream_piece_code.proofs.feed_all.Given as goal
 
 -- the loop over lines

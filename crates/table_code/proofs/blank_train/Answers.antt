@@ -1,5 +1,4 @@
 -- `table_code::blank_train` meets its contract.
-use borrow.Author.Rules.{rules}
 use Rattle.table_code.proofs.blank_train.Goals as goal
 
 pub returns : goal.returns

@@ -1,7 +1,6 @@
 -- `table_code::carry_out` meets its contract.
 use mathlib.Core.Path.{subst}
 use Rattle.table.specs.Table.{Fits}
-use borrow.Author.Rules.{rules}
 use Rattle.table_code.proofs.carry_out.Goals as goal
 
 pub with_train-requires : goal.with_train-requires

@@ -1,11 +1,9 @@
 -- `table_code::find` meets its contract. The loop's invariant: no train before place i has the id.
-use Prim.Native.Nat.{min, ◌-◌, ◌≤◌}
-use mathlib.Core.Logic.{⊎_elim}
+use Prim.Native.Nat.{min, ◌≤◌}
 use mathlib.Core.Path.{◌≡◌, refl, ◌∙◌}
 use native.Mathlib.Omega.{arith}
-use lib.ListN.{drop, length}
-use borrow.Author.Tests.{eqb-true, eqb-false, not-true, not-false}
-use Rattle.table.specs.Table.{on_line, place_in, place_of}
+use lib.ListN.{length}
+use Rattle.table.specs.Table.{place_of}
 use Rattle.table_code.proofs.Places.{long, find_next, search_ended}
 use borrow.Author.Rules.{rules}
 use Rattle.table_code.proofs.find.Goals as goal

@@ -1,12 +1,7 @@
-use Prim.Native.Nat.{min, ◌-◌, ◌≤◌}
-use mathlib.Core.Logic.{⊎_elim}
-use mathlib.Core.Path.{◌≡◌, refl, ◌∙◌}
-use native.Mathlib.Omega.{arith}
-use lib.ListN.{drop, length}
-use borrow.Author.Tests.{eqb-true, eqb-false, not-true, not-false}
+use Prim.Native.Nat.{◌-◌, ◌≤◌}
+use mathlib.Core.Path.{◌≡◌}
+use lib.ListN.{drop}
 use Rattle.table.specs.Table.{on_line, place_in, place_of}
-use Rattle.table_code.proofs.Places.{long, find_next, search_ended}
-use borrow.Author.Rules.{rules}
 use Rattle.table_code.proofs.find.Given as goal
 
 abbrev pub invariant-loop-i : goal.invariant-loop-i

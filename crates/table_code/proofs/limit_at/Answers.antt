@@ -3,7 +3,6 @@ use mathlib.Core.Path.{◌∙◌}
 use native.Mathlib.Omega.{arith}
 use Rattle.train.proofs.Track.{limit_first}
 use Rattle.table_code.proofs.Places.{ahead_first, ahead_behind}
-use borrow.Author.Rules.{rules}
 use Rattle.table_code.proofs.limit_at.Goals as goal
 
 pub returns-then-i-eq0 : goal.returns-then-i-eq0

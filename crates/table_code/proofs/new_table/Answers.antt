@@ -1,5 +1,4 @@
 -- `table_code::new_table` meets its contract.
-use borrow.Author.Rules.{rules}
 use Rattle.table_code.proofs.new_table.Goals as goal
 
 pub returns : goal.returns

@@ -1,9 +1,8 @@
 -- `table_code::without_first` meets its contract. The loop's invariant: the first i records have moved up.
-use Prim.Native.Nat.{◌-◌, ◌≤◌}
 use mathlib.Core.Path.{◌≡◌, refl}
 use native.Mathlib.Omega.{arith}
 use lib.ListN.{length}
-use Rattle.table_code.proofs.Places.{long, moved_up, moved_on, moved_all}
+use Rattle.table_code.proofs.Places.{long, moved_on, moved_all}
 use borrow.Author.Rules.{rules}
 use Rattle.table_code.proofs.without_first.Goals as goal
 

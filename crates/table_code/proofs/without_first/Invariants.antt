@@ -1,9 +1,6 @@
 use Prim.Native.Nat.{◌-◌, ◌≤◌}
-use mathlib.Core.Path.{◌≡◌, refl}
-use native.Mathlib.Omega.{arith}
-use lib.ListN.{length}
-use Rattle.table_code.proofs.Places.{long, moved_up, moved_on, moved_all}
-use borrow.Author.Rules.{rules}
+use mathlib.Core.Path.{◌≡◌}
+use Rattle.table_code.proofs.Places.{moved_up}
 use Rattle.table_code.proofs.without_first.Given as goal
 
 abbrev pub invariant-loop-i : goal.invariant-loop-i

@@ -1,6 +1,5 @@
 -- `train_code::is_allowed` meets its contract.
 use Rattle.train.specs.Report.{allowed}
-use borrow.Author.Rules.{rules}
 use Rattle.train_code.proofs.is_allowed.Goals as goal
 
 pub returns : goal.returns

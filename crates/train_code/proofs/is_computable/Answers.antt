@@ -1,6 +1,5 @@
 -- `train_code::is_computable` meets its contract.
 use Rattle.train.specs.Report.{computable}
-use borrow.Author.Rules.{rules}
 use Rattle.train_code.proofs.is_computable.Goals as goal
 
 pub returns : goal.returns

@@ -1,5 +1,4 @@
 -- `train_code::is_moving` meets its contract.
-use borrow.Author.Rules.{rules}
 use Rattle.train.specs.Report.{moves}
 use Rattle.train_code.proofs.is_moving.Goals as goal
 

@@ -1,5 +1,4 @@
 -- `train_code::is_penalty` meets its contract.
-use borrow.Author.Rules.{rules}
 use Rattle.train.specs.Report.{is_penalty}
 use Rattle.train_code.proofs.is_penalty.Goals as goal
 

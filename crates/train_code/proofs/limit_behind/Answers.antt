@@ -1,6 +1,5 @@
 -- `train_code::limit_behind` meets its contract.
 use mathlib.Core.Path.{sym}
-use borrow.Author.Rules.{rules}
 use native.Mathlib.Omega.{arith}
 use Rattle.train.proofs.Track.{limit_nowhere, limit_place}
 use Rattle.train_code.proofs.limit_behind.Goals as goal

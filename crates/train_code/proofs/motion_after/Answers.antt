@@ -1,5 +1,4 @@
 -- `train_code::motion_after` meets its contract.
-use borrow.Author.Rules.{rules}
 use Rattle.train_code.proofs.motion_after.Goals as goal
 
 pub returns : goal.returns

@@ -1,5 +1,4 @@
 -- `train_code::must_brake` meets its contract.
-use borrow.Author.Rules.{rules}
 use Rattle.train.specs.Report.{must_brake}
 use Rattle.train_code.proofs.must_brake.Goals as goal
 

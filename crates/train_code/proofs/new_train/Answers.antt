@@ -1,5 +1,4 @@
 -- `train_code::new_train` meets its contract.
-use borrow.Author.Rules.{rules}
 use Rattle.train_code.proofs.new_train.Goals as goal
 
 pub returns : goal.returns

@@ -1,7 +1,6 @@
 -- `train_code::order_after` meets its contract.
 use mathlib.Core.Path.{sym, ◌∙◌}
 use Rattle.train.proofs.Records.{must_brake_lem, free_order}
-use borrow.Author.Rules.{rules}
 use Rattle.train_code.proofs.order_after.Goals as goal
 
 pub returns-then-must_brake : goal.returns-then-must_brake

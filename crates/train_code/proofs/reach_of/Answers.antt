@@ -1,6 +1,5 @@
 -- `train_code::reach_of` meets its contract.
 use Rattle.train.proofs.Records.{computable_bounded}
-use borrow.Author.Rules.{rules}
 use Rattle.train_code.proofs.reach_of.Goals as goal
 
 pub reach_of-requires : goal.reach_of-requires

@@ -1,8 +1,6 @@
 -- `train_code::report_allowed` meets its contract.
 use mathlib.Core.Path.{sym, ◌∙◌}
-use borrow.Author.Tests.{not-true, not-false}
 use Rattle.train.specs.Report.{report_allowed}
-use borrow.Author.Rules.{rules}
 use Rattle.train_code.proofs.report_allowed.Goals as goal
 
 pub returns-then-not-is_computable : goal.returns-then-not-is_computable

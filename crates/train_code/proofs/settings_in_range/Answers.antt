@@ -1,6 +1,5 @@
 -- `train_code::settings_in_range` meets its contract.
 use Rattle.train.specs.Ranges.{settings_in_range}
-use borrow.Author.Rules.{rules}
 use Rattle.train_code.proofs.settings_in_range.Goals as goal
 
 pub returns : goal.returns

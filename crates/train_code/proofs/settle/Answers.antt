@@ -1,8 +1,6 @@
 -- `train_code::settle` meets its contract.
 use mathlib.Core.Logic.{inl, inr}
 use mathlib.Core.Path.{sym, ◌∙◌}
-use borrow.Author.Tests.{not-true, not-false}
-use borrow.Author.Rules.{rules}
 use Rattle.train.proofs.Pending.{settled_none, settled_there, settled_past, settled_waits}
 use Rattle.train_code.proofs.settle.Goals as goal
 

@@ -1,5 +1,4 @@
 -- `train_code::with_order` meets its contract.
-use borrow.Author.Rules.{rules}
 use Rattle.train_code.proofs.with_order.Goals as goal
 
 pub returns : goal.returns

@@ -4,7 +4,6 @@ use mathlib.Core.Path.{◌≡◌, sym}
 use native.Mathlib.Omega.{arith}
 use borrow.Author.Tests.{lt-leb, leb-true}
 use Rattle.logic.proofs.Tests.{same_test}
-use borrow.Author.Rules.{rules}
 use Rattle.train_code.proofs.within.Goals as goal
 
 pub returns-then-place-end : goal.returns-then-place-end

@@ -1,6 +1,5 @@
 -- `train_code::worst_of` meets its contract.
 use Rattle.train.proofs.Records.{computable_bounded}
-use borrow.Author.Rules.{rules}
 use Rattle.train_code.proofs.worst_of.Goals as goal
 
 pub worst_case-requires : goal.worst_case-requires

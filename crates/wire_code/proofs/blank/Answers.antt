@@ -1,8 +1,6 @@
 -- `wire_code::blank` meets its contract.
-use Prim.Native.Nat.{◌-◌, ◌≤◌}
 use native.Mathlib.Omega.{arith}
 use mathlib.Core.Path.{◌≡◌, refl}
-use Rattle.wire_code.specs.Columns.{Blanked}
 use Rattle.wire_code.proofs.Texts.{blanked_more}
 use Rattle.wire_code.proofs.blank.Goals as goal
 

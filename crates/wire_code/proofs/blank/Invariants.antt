@@ -1,8 +1,5 @@
 use Prim.Native.Nat.{◌-◌, ◌≤◌}
-use native.Mathlib.Omega.{arith}
-use mathlib.Core.Path.{◌≡◌, refl}
 use Rattle.wire_code.specs.Columns.{Blanked}
-use Rattle.wire_code.proofs.Texts.{blanked_more}
 use Rattle.wire_code.proofs.blank.Given as goal
 
 abbrev pub invariant-loop-i : goal.invariant-loop-i

@@ -1,6 +1,5 @@
 -- `wire_code::column` meets its contract.
 use borrow.Author.Tests.{eq-eqb, ne_eqb}
-use borrow.Author.Rules.{rules}
 use Rattle.wire.specs.Format.{column}
 use Rattle.wire_code.proofs.column.Goals as goal
 

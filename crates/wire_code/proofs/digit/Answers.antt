@@ -1,6 +1,5 @@
 -- `wire_code::digit` meets its contract.
 use borrow.Author.Tests.{le-leb, lt-leb}
-use borrow.Author.Rules.{rules}
 use Rattle.wire.specs.Format.{digit}
 use Rattle.wire_code.proofs.digit.Goals as goal
 

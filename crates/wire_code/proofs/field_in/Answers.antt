@@ -1,11 +1,7 @@
 -- `wire_code::field_in` meets its contract.
-use Prim.Native.Nat.{◌-◌, ◌^◌, ◌≤◌, ◌<◌}
 use native.Mathlib.Omega.{arith}
-use mathlib.Core.Path.{◌≡◌, refl, sym, ap, ◌∙◌}
-use lib.ListN.{length, drop}
-use borrow.Author.Rules.{rules}
-use Rattle.wire.specs.declared.Scan.TheVariants.{Blank}
-use Rattle.wire.specs.Format.{columns, so_far, ended}
+use mathlib.Core.Path.{refl, sym, ap, ◌∙◌}
+use Rattle.wire.specs.Format.{so_far, ended}
 use Rattle.wire.proofs.Fields.{columns_next, columns_end, column_below, below_14}
 use Rattle.wire_code.proofs.field_in.Goals as goal
 

@@ -1,11 +1,8 @@
 use Prim.Native.Nat.{◌-◌, ◌^◌, ◌≤◌, ◌<◌}
-use native.Mathlib.Omega.{arith}
-use mathlib.Core.Path.{◌≡◌, refl, sym, ap, ◌∙◌}
+use mathlib.Core.Path.{◌≡◌}
 use lib.ListN.{length, drop}
-use borrow.Author.Rules.{rules}
 use Rattle.wire.specs.declared.Scan.TheVariants.{Blank}
-use Rattle.wire.specs.Format.{columns, so_far, ended}
-use Rattle.wire.proofs.Fields.{columns_next, columns_end, column_below, below_14}
+use Rattle.wire.specs.Format.{columns, so_far}
 use Rattle.wire_code.proofs.field_in.Given as goal
 
 abbrev pub invariant-loop-i : goal.invariant-loop-i

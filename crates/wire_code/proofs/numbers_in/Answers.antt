@@ -1,13 +1,13 @@
 -- `wire_code::numbers_in` meets its contract.
-use Prim.Native.Nat.{ℕ, ◌+◌, ◌-◌, ◌≤◌}
+use Prim.Native.Nat.{◌+◌, ◌≤◌}
 use native.Mathlib.Omega.{arith}
 use mathlib.Core.Path.{◌≡◌, refl, sym, ap, ◌∙◌}
-use lib.ListN.{length, take, drop, get_or, length-take}
+use lib.ListN.{take, get_or, length-take}
 use borrow.Author.Rules.{rules}
 use lib.Seq.{take_all}
 use mathlib.Core.List.{append-nil}
 use Rattle.wire.specs.declared.Field.{Field}
-use Rattle.wire.specs.Format.{total, call_columns, call_width, with_number, numbers_in}
+use Rattle.wire.specs.Format.{call_columns, call_width, with_number, numbers_in}
 use Rattle.wire_code.proofs.Rows.{narrow, total_next, remaining, numbers_next, numbers_end, before, before_more, before_none}
 use Rattle.wire_code.proofs.numbers_in.Goals as goal
 

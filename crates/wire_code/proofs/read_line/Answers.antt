@@ -1,6 +1,5 @@
 -- `wire_code::read_line` meets its contract.
 use mathlib.Core.Path.{sym, ap, ◌∙◌}
-use borrow.Author.Rules.{rules}
 use Rattle.wire.specs.Format.{request_by, line_read}
 use Rattle.wire_code.proofs.Rows.{row_unread, row_read}
 use Rattle.wire_code.proofs.read_line.Goals as goal

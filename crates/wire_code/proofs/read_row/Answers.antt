@@ -1,6 +1,5 @@
 -- `wire_code::read_row` meets its contract.
 use borrow.Author.Tests.{eq-eqb, ne_eqb}
-use borrow.Author.Rules.{rules}
 use Rattle.wire_code.proofs.read_row.Goals as goal
 
 pub returns-then-line-ne-CALL_WIDTH : goal.returns-then-line-ne-CALL_WIDTH

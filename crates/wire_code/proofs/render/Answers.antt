@@ -6,7 +6,6 @@ use mathlib.Core.Path.{◌≡◌, refl, ◌∙◌}
 use mathlib.Core.List.{List}
 use lib.ListN.{length}
 use borrow.Author.Tests.{lt-leb, le-leb}
-use borrow.Author.Rules.{rules}
 use Rattle.calls.specs.declared.Numbers.{Numbers}
 use Rattle.wire.specs.Format.{answer_width, room_at, rendered}
 use Rattle.wire_code.proofs.Texts.{answer_put}
