@@ -6,7 +6,8 @@ use mathlib.Core.Path.{◌≡◌}
 use borrow.Author.Tests.{not-false}
 use Rattle.train.specs.declared.Train.{Train}
 use Rattle.acts.specs.Acts.{call_back_allowed, may_leave}
-use Rattle.acts.proofs.Sentences.{call_back_between, leaves_exactly}
+use Rattle.acts.proofs.CallBacks.{call_back_between}
+use Rattle.acts.proofs.Sentences.{leaves_exactly}
 
 pub call_back_allowed_lem : (x : Train) (place : ℕ) → not (call_back_allowed x place) ≡ false → (x.motion.head ≤ place) × (place ≤ x.authority.end)
 call_back_allowed_lem x place e = call_back_between x place (not-false _ e)

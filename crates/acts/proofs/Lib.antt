@@ -1,3 +1,5 @@
 pub mod Verdicts
+pub mod CallBacks
 pub mod Sentences
+pub mod Used
 pub mod Checks

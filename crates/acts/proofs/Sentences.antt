@@ -43,6 +43,7 @@ use Rattle.train.proofs.Track.{InLimit, limit_within, limit_beyond}
 use Rattle.train.proofs.Records.{report_passed}
 use Rattle.train.proofs.Sentences.{Allows, report_exactly, level_found, motion_found, penalty_order}
 use Rattle.train.proofs.Pending.{settled_numbers}
+use Rattle.acts.proofs.CallBacks.{call_back_between, call_back_tested}
 use Rattle.acts.proofs.Verdicts.{report_refused, report_taken, extend_bad, extend_old, extend_other, extend_repeat, extend_pending, extend_beyond, extend_new, call_back_refused, call_back_taken}
 
 -- ---- reports
@@ -81,7 +82,7 @@ pub record WellFormed (σ : Settings) (q : Extension) : Type 0 where
   pub length_least : 1 ≤ q.length
   pub length_most : q.length ≤ σ.end
 
-well_formed : (σ : Settings) (q : Extension) → request_in_range σ q ≡ true → WellFormed σ q
+pub well_formed : (σ : Settings) (q : Extension) → request_in_range σ q ≡ true → WellFormed σ q
 unfolding request_in_range
 well_formed σ q e =
     let tests = both (number_in_range q.number) (between 1 σ.end q.length) e in
@@ -89,7 +90,7 @@ well_formed σ q e =
     let length = (between_exactly 1 σ.end q.length).0 tests.1 in
     record { number_least = number.0; number_most = number.1; length_least = length.0; length_most = length.1 }
 
-ranged : (σ : Settings) (q : Extension) → WellFormed σ q → request_in_range σ q ≡ true
+pub ranged : (σ : Settings) (q : Extension) → WellFormed σ q → request_in_range σ q ≡ true
 unfolding request_in_range
 ranged σ q a =
     rw ((request_number q.number).1 (a.number_least, a.number_most), (between_exactly 1 σ.end q.length).1 (a.length_least, a.length_most))
@@ -147,22 +148,6 @@ module _ (σ : Settings) (limit : Limit) (x : Train) (q : Extension) where
           extension_taken near =
               extend_new σ x limit q (ranged σ q a) (fresh (omega arith)) (λ e. omega arith) free (limit_within limit _ near)
 
-  -- a number above the starting one, up to the last accepted: refused, or the repeat that changes nothing
-  pub extension_used : mine.start < q.number → q.number ≤ mine.number
-      → ((r : Refusal) × (extension ≡ TurnedDown r)) ⊎ (extension ≡ Passed (Extended mine.end true) x)
-  extension_used above used =
-      by_test (request_in_range σ q)
-      (λ e.
-      let a = well_formed σ q e in
-      by_cases (dec_lt q.number mine.number)
-      (λ low. inl (OldNumber, extension_11 a (inr low)))
-      (λ high.
-      let last : q.number ≡ mine.number = omega arith in
-      by_cases (ℕ_discrete q.length mine.length)
-      (λ same. inr (extension_repeated a above last same))
-      (λ other. inl (OtherLength, extension_12 a above last other))))
-      (λ e. inl (BadRequest, extension_10 (λ a. not_both (ranged σ q a) e)))
-
   -- what an accepted extension has passed and leaves: its number and length are the last accepted ones
   pub record Accepts : Type 0 where
     pub formed : WellFormed σ q
@@ -193,18 +178,6 @@ module _ (σ : Settings) (limit : Limit) (x : Train) (q : Extension) where
       }
 
 -- ---- call back
-
-pub call_back_between : (x : Train) (place : ℕ) → call_back_allowed x place ≡ true → (x.motion.head ≤ place) × (place ≤ x.authority.end)
-unfolding call_back_allowed
-call_back_between x place e = (between_exactly x.motion.head x.authority.end place).0 (both (computable x) _ e).1
-
-pub call_back_computes : (x : Train) (place : ℕ) → call_back_allowed x place ≡ true → computable x ≡ true
-unfolding call_back_allowed
-call_back_computes x place e = (both (computable x) _ e).0
-
-pub call_back_tested : (x : Train) (place : ℕ) → computable x ≡ true → call_back_allowed x place ≡ between x.motion.head x.authority.end place
-unfolding call_back_allowed
-call_back_tested x place e = rw e
 
 module _ (σ : Settings) (limit : Limit) (x : Train) (place : ℕ) where
   abbrev calling : Verdict

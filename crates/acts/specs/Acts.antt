@@ -36,7 +36,7 @@ unfoldable pub called_back : Train → ℕ → Train
 called_back x place = authorised x (cond (leb (reach_of x) place) (ending_at x.authority place) (wanting x.authority place))
 
 -- A place from the head to the end, both included. On a table that calls left this is the second test alone (safety/proofs/Bounds:
--- call-back-judged).
+-- call_back_judged).
 unfoldable pub call_back_allowed : Train → ℕ → Bool
 call_back_allowed x place = computable x && between x.motion.head x.authority.end place
 

@@ -59,7 +59,7 @@ greatest_full = 162039
 
 -- ---- words of inner contracts
 
--- What code that computes with figures may take for granted: `figures_of` gives no others (proofs/Consist: given-sound).
+-- What code that computes with figures may take for granted: `figures_of` gives no others (proofs/Consist: given_sound).
 -- Document 01 has no such word. It stands in `requires` clauses, so that no sum overflows and the brake grows.
 pub record Sound (k : Figures) : Type 0 where
   pub growth_positive : 1 ≤ k.growth

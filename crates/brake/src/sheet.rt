@@ -1,5 +1,5 @@
 // The brake shop's sheet: cycles until the brake is full, for every 20 ft from 0 to 10,000 ft. It is written down here alone; that each entry is the
-// formula's is computed in proofs/sheet_entry: entries-follow.
+// formula's is computed in proofs/sheet_entry: entries_follow.
 // In 16 bits: the compiler lays the table out on the stack at each entering, and a quarter of the bytes is a quarter of the instructions.
 
 pub const SHEET: [u16; 501] = [

@@ -1,4 +1,4 @@
--- What the search for the greatest cap takes for granted. Document 01 has the order only (motion/specs/Orders: orderFor).
+-- What the search for the greatest cap takes for granted. Document 01 has the order only (motion/specs/Orders: order_for).
 use Rattle.std.specs.Prelude.{ℕ, ◌+◌, ◌-◌, ◌/◌, ◌≤◌, ◌<◌, List, ◌≡◌, length, get_or, take}
 use Rattle.brake.specs.declared.Figures.{Figures}
 use Rattle.brake.specs.declared.FiguresFound.TheVariants.{Given}
@@ -21,7 +21,7 @@ pub record CapsAllowed (k : Figures) (l : Maxima) (v n : ℕ) : Type 0 where
   pub exceed : (c : ℕ) → n ≤ c → c ≤ l.traction → l.ceiling < drive_speed k v c
 
 -- Places of the two arrays. The first is enough where few levels are read; no list of a consist is longer than the second
--- (caps/proofs/Levels: slow-run, list-within).
+-- (caps/proofs/Levels: slow_run, list_within).
 abbrev pub short_list : ℕ
 short_list = 240
 

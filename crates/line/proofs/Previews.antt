@@ -43,6 +43,7 @@ use Rattle.line.specs.Preview.{shown_by, needs_opening, previewed}
 use Rattle.line.proofs.Steps.{Admitted, any_call, any_request, open_taken, open_refused}
 use Rattle.line.proofs.Rules.{Kept, decision_kept, open_3, open_accepted}
 use Rattle.line.proofs.Stays.{Holds}
+use Rattle.line.proofs.Showing.{Shows}
 
 -- ---- "answers exactly what the call would answer on a copy of the table"
 
@@ -75,16 +76,7 @@ module _ (t : Table) (o : Opening) where
 
 -- a table with its 32 places: every table has them
 module _ (t : Table) (size : length t.trains ≡ 32) where
-  -- the table after a decision holds the record that is shown of it, as that of the train with this id
-  abbrev Held : ℕ → Decision → Type 0
-  Held id d = (numbers_of d.answer).number ≡ 0 → Holds (λ (x : Train). x ≡ shown_by d.change) id (changed t d.change)
-
-  abbrev Shows : Call → Decision → Type 0
-  Shows (Enter e) d = Held e.id d
-  Shows (Own id a) d = Held id d
-  Shows (TakeOff id) d = shown_by d.change ≡ zero_record
-
-  shows_refused : (c : Call) (why : Refusal) → Shows c (refused why)
+  shows_refused : (c : Call) (why : Refusal) → Shows t c (refused why)
   shows_refused (Enter e) why = λ zero. let range = refusal_range why in absurd (omega arith)
   shows_refused (Own id a) why = λ zero. let range = refusal_range why in absurd (omega arith)
   shows_refused (TakeOff id) why = refl
@@ -117,9 +109,9 @@ module _ (t : Table) (size : length t.trains ≡ 32) where
         so = still_there t id i y f;
       }
 
-  call_shows : (c : Call) → Shows c (decide_on t (OnTable c))
+  call_shows : (c : Call) → Shows t c (decide_on t (OnTable c))
   call_shows =
-      any_call t Shows
+      any_call t (Shows t)
       (record {
         refuses = shows_refused;
         enters = λ e k a zero. entered e k a;
@@ -130,7 +122,7 @@ module _ (t : Table) (size : length t.trains ≡ 32) where
   -- by any caller
   abbrev ShowsFor : Ask → Decision → Type 0
   ShowsFor (Open o) d = Unit {0}
-  ShowsFor (OnTable c) d = Shows c d
+  ShowsFor (OnTable c) d = Shows t c d
 
   request_shows : (r : Request) → ShowsFor r.ask (decided true t r)
   request_shows =
@@ -161,7 +153,7 @@ module _ (t : Table) where
     where
       go : Kept (decided (needs_opening r.ask) t r) → (previewed t r).train ≡ zero_record
       go (inl zero) = absurd (refuses zero)
-      go (inr (zeros, stays)) = ap shown_by stays
+      go (inr (zeros, stays)) = rw stays refl
 
   -- and "a call naming no train"
   pub preview_names_none : (n : ℕ) (o : Opening) → (previewed t (request n (Open o))).train ≡ zero_record

@@ -1,5 +1,5 @@
 -- What document 01 says of the calls, in its words: which are taken, exactly, and what each leaves. In numbers and in the fields of records.
--- `step` and `open_decision` are what a call comes to by a caller with the right (Rights: call-rightful, open-rightful).
+-- `step` and `open_decision` are what a call comes to by a caller with the right (Rights: call_rightful, open_rightful).
 -- Assumes nothing.
 use Prim.Native.Nat.{ℕ, ◌*◌, ◌≤◌, ◌<◌}
 use mathlib.Core.Bool.{Bool, true, false, ◌&&◌}
@@ -217,11 +217,11 @@ module _ (t : Table) (e : Entry) where
 -- 8 "no such train"
 pub own_8 : (t : Table) (id : ℕ) (a : Act) → place_of t id ≡ none → step t (Own id a) ≡ outcome (Refused NoTrain) t
 unfolding step
-own_8 t id a None-found = ap (carried_out t) (own_unknown t id a None-found)
+own_8 t id a none_found = ap (carried_out t) (own_unknown t id a none_found)
 
 pub take_off_8 : (t : Table) (id : ℕ) → place_of t id ≡ none → step t (TakeOff id) ≡ outcome (Refused NoTrain) t
 unfolding step
-take_off_8 t id None-found = ap (carried_out t) (take_off_unknown t id None-found)
+take_off_8 t id none_found = ap (carried_out t) (take_off_unknown t id none_found)
 
 module _ (t : Table) (id i : ℕ) (found : place_of t id ≡ some i) where
   at_place : FoundAt t (place_of t id) i (limit_at t i) (train_at t i)

@@ -52,7 +52,7 @@ use Rattle.line.specs.declared.Outcome.{Outcome}
 use Rattle.line.specs.Decide.{refused, accepted, judged, open_decision, enter_checks, enter_decision, ruling_at, act_decision, take_off_decision, named, decide_on, out_of_turn, decided}
 use Rattle.line.specs.Step.{outcome, carried_out, open_step}
 
--- what a call but open comes to by a caller with the right (Rights: call-rightful)
+-- what a call but open comes to by a caller with the right (Rights: call_rightful)
 unfoldable pub step : Table → Call → Outcome
 step t c = carried_out t (decide_on t (OnTable c))
 

@@ -9,7 +9,7 @@ use Rattle.motion.specs.declared.Motion.{Motion}
 abbrev pub greatest_speed : ℕ
 greatest_speed = greatest_ceiling
 
--- the bounds of a train and a cap as a test, for a record of which nothing is known (proofs/Bounds: bounds-tested, bounds-hold)
+-- the bounds of a train and a cap as a test, for a record of which nothing is known (proofs/Bounds: bounds_tested, bounds_hold)
 unfoldable pub in_bounds : Figures → Motion → ℕ → Bool
 in_bounds k m c =
     leb 1 k.growth && leb k.growth k.full && leb k.full greatest_full && leb m.level k.full
@@ -19,7 +19,7 @@ in_bounds k m c =
 
 -- What the code may take for granted. A report brings its speed from outside. It is used only where the record passes `in_bounds`, the report is
 -- within the worst case of the last order, and the motion after it passes `in_bounds` too (train/specs/Report: computable, allowed,
--- reportAllowed). A report within that worst case keeps these bounds (proofs/Orders: within-report, within-bounded).
+-- report_allowed). A report within that worst case keeps these bounds (proofs/Orders: within_report, within_bounded).
 
 -- a level that the brake can have
 pub record Level (k : Figures) (b : ℕ) : Type 0 where

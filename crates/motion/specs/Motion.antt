@@ -50,7 +50,7 @@ first_cycles (suc n) k v b =
     elim (stands k v b) [ true ↦ [] | false ↦ braked_cycle k v b ∷ first_cycles n k (brake_speed k v b) (next_level k b) ]
 
 -- No run is longer than this: one cycle at level 0, and each cycle after it takes off at least 1. It only makes the run
--- below computable: more changes nothing (proofs/Runs: run-enough, run-stands, run-moves).
+-- below computable: more changes nothing (proofs/Runs: run_enough, run_stands, run_moves).
 unfoldable pub enough_cycles : Figures → ℕ → ℕ → ℕ
 enough_cycles k v b = v + (1 - b)
 

@@ -34,7 +34,7 @@ abbrev pub growth_given : FiguresFound → ℕ
 growth_given (Given k) = k.growth
 growth_given NoFigures = 0
 
--- 1 where it is given figures, 0 where there are none: answer 4 (line/specs/Decide: enterDecision)
+-- 1 where it is given figures, 0 where there are none: answer 4 (line/specs/Decide: enter_decision)
 abbrev pub is_given : FiguresFound → ℕ
 is_given (Given k) = 1
 is_given NoFigures = 0

@@ -1,5 +1,5 @@
 -- Three sessions, the files in docs/session: document 01's, an example for document 02, (ii), and one for (v) at the desk. They are computed by
--- the definitions, from bytes to bytes (proofs/Paper: worked-session, penalty-session, desk-session).
+-- the definitions, from bytes to bytes (proofs/Paper: worked_session, penalty_session_lem, desk_session_lem).
 use Rattle.std.specs.Prelude.{List, [], ◌∷◌}
 use Rattle.papers.specs.Exchanges.{Exchange, line}
 

@@ -38,7 +38,7 @@ pub data Right : ℕ → Ask → Type 0 where
 -- the train of this id
 itself : (id n : ℕ) (a : Ask) → (1 ≤ id → id ≤ 65535 → Right id a) → is_train id n ≡ true → Right n a
 itself id n a right e =
-    let tests = both (id_in_range n) _ e in
+    let tests = both _ _ e in
     let same : n ≡ id = eqb-true n id tests.1 in
     let range = (train_id n).0 tests.0 in
     subst (λ (m : ℕ). Right m a) (sym same) (right (omega arith) (omega arith))

@@ -34,7 +34,7 @@ use Rattle.line.specs.Step.{outcome, open_step}
 use Rattle.line.proofs.Steps.{open_made}
 use Rattle.train.proofs.Checks.{allowed_no_worse}
 use Rattle.train.proofs.Sentences.{settings_exactly}
-use Rattle.acts.proofs.Sentences.{call_back_tested}
+use Rattle.acts.proofs.CallBacks.{call_back_tested}
 use Rattle.safety.specs.History.{Deed, history, after, Told, told}
 use Rattle.safety.specs.Claim.{record_of}
 use Rattle.safety.proofs.Train.{Guarded, guarded_head}

@@ -1,7 +1,7 @@
 -- Demand 2, a law to a sentence: in its words and order, of every table that a list of calls left on an opened line, in numbers and in the
 -- fields of records. What each law cites is said of one train in acts/proofs/Sentences, train/proofs/Sentences and Pending, of motion and caps in
 -- motion/proofs/Sentences and OrderSentences, of figures in brake/proofs/Sentences. Entering and taking off, which ask no list, are in line/proofs/Rules.
--- `step` is what a call comes to by a caller with the right (line/proofs/Rights: call-rightful).
+-- `step` is what a call comes to by a caller with the right (line/proofs/Rights: call_rightful).
 -- Assumes nothing.
 use Prim.Native.Nat.{ℕ, suc, ◌+◌, ◌*◌, ◌≤◌, ◌<◌}
 use mathlib.Core.Bool.{Bool, true, false}
@@ -103,7 +103,7 @@ module _ (o : Opening) (t : Table) (opened : open_step o ≡ outcome (Accepted Z
       abbrev given : Order
       given = order_after now.settings x m
 
-      -- what becomes of a pending call back, after the order (train/proofs/Pending: settled-none, settled-there, settled-past, settled-waits)
+      -- what becomes of a pending call back, after the order (train/proofs/Pending: settled_none, settled_there, settled_past, settled_waits)
       abbrev then : Authority
       then = settled x.authority (stands x.figures m.speed m.level) m.head (reach x.figures m given)
 
@@ -122,7 +122,7 @@ module _ (o : Opening) (t : Table) (opened : open_step o ≡ outcome (Accepted Z
       -- "Traction offered is the greatest, within the engine's limit and the speed ceiling, after which the air brake, starting from
       -- nothing, still stops the train at or before its end."
       -- It holds of a train that is not held and, with document 02, (ii), "for unmarked trains", or at "one with speed 0". With (vi) "the wanted
-      -- place ... stands for the end in demand 2's rules": it is the end where no call back is pending (Pending: goal-within-end).
+      -- place ... stands for the end in demand 2's rules": it is the end where no call back is pending (Pending: goal_within_end).
       abbrev Unmarked : Type 0
       Unmarked = (x.marks.penalty ≡ false) ⊎ (r.speed ≡ 0)
 

@@ -1,5 +1,5 @@
 -- Document 02, (vi), over every list of deeds: what a pending call back leaves as it is, and when it ends. `step` is what a call comes to by a
--- caller with the right; one without it leaves the table (line/proofs/Rights: call-16).
+-- caller with the right; one without it leaves the table (line/proofs/Rights: call_16).
 -- Assumes nothing.
 use Prim.Native.Nat.{ℕ, zero, suc, ◌+◌, ◌≤◌, ◌<◌}
 use mathlib.Core.Bool.{true}

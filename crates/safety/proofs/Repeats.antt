@@ -1,5 +1,5 @@
 -- Repeats, over every list of deeds: "the repeat of an accepted one in the same stay adds none". `step` is what a call comes to by a caller with
--- the right; one without it leaves the table too (line/proofs/Rights: call-16).
+-- the right; one without it leaves the table too (line/proofs/Rights: call_16).
 -- Assumes nothing.
 use Prim.Native.Nat.{ℕ, ◌≤◌, ◌<◌}
 use mathlib.Core.Bool.{true}
@@ -27,7 +27,8 @@ use Rattle.train.specs.Ranges.{WorksWith}
 use Rattle.acts.specs.declared.Verdict.TheVariants.{TurnedDown, Passed}
 use Rattle.acts.specs.Acts.{is_repeat, extended}
 use Rattle.acts.specs.Decide.{decide, verdict}
-use Rattle.acts.proofs.Sentences.{WellFormed, extension_repeated, extension_used, extension_accepted, Leaves, act_leaves, number_onward}
+use Rattle.acts.proofs.Used.{extension_used}
+use Rattle.acts.proofs.Sentences.{WellFormed, extension_repeated, extension_accepted, Leaves, act_leaves, number_onward}
 use Rattle.table.specs.declared.Table.{Table}
 use Rattle.table.specs.Table.{place_of, train_at, limit_at}
 use Rattle.table.proofs.Places.{found_below, still_found, still_there, put_same}

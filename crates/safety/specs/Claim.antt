@@ -59,7 +59,7 @@ record_of x =
     x.now.order x.now.authority (record { held = is_some x.now.counts.held; penalty = is_some x.now.counts.braked })
 
 -- Demand 3 for one list of deeds on the table t that the opening o made: the claim holds of the history, and the table after it is what
--- the history tells (proofs/Demand3: demand-3).
+-- the history tells (proofs/Demand3: demand_3).
 pub record Demand3 (o : Opening) (t : Table) (ds : List Deed) : Type 0 where
   pub claim : Claim o (history t ds)
   -- the line is still the one that o began

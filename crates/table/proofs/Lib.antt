@@ -1,4 +1,5 @@
 pub mod Places
 pub mod Trains
 pub mod Spare
+pub mod Seen
 pub mod Sentences

@@ -23,6 +23,7 @@ use Rattle.train.proofs.Sentences.{limit_of_the_first, limit_behind_lem}
 use Rattle.table.specs.declared.Table.{Table}
 use Rattle.table.specs.declared.Change.TheVariants.{Put, Add, DropFirst, Anew}
 use Rattle.table.specs.Table.{blank_train, on_line, place_in, place_of, train_at, ahead_of, limit_at, changed}
+use Rattle.table.proofs.Seen.{id_at, Seen, seen}
 use Rattle.table.proofs.Trains.{Sized, line_length, train_on_line, line_without_first}
 
 -- ---- a place without a train
@@ -42,36 +43,6 @@ zero_record =
 
 pub blank_zeros : blank_train ≡ zero_record
 blank_zeros = refl
-
--- ---- in a list
-
-abbrev id_at : List Train → ℕ → ℕ
-id_at xs j = (get_or xs j blank_train).id
-
--- what the search of a list, whose first train is at place n, has found
-abbrev Seen : List Train → ℕ → ℕ → Option ℕ → Type 0
-Seen xs id n none = (j : ℕ) → j < length xs → id_at xs j ≡ id → ⊥
-Seen xs id n (some i) = (j : ℕ) × (i ≡ n + j) × (j < length xs) × (id_at xs j ≡ id) × ((m : ℕ) → m < j → id_at xs m ≡ id → ⊥)
-
-further : (x : Train) (xs : List Train) (id n : ℕ) (f : Option ℕ) → (x.id ≡ id → ⊥) → Seen xs id (suc n) f → Seen (x ∷ xs) id n f
-further x xs id n none other h = λ j below. go j below
-  where
-    go : (j : ℕ) → j < length (x ∷ xs) → id_at (x ∷ xs) j ≡ id → ⊥
-    go zero below = other
-    go (suc j) below = h j (omega arith)
-further x xs id n (some i) other (j, place, below, here, first) = (suc j, omega arith, omega arith, here, go)
-  where
-    go : (m : ℕ) → m < suc j → id_at (x ∷ xs) m ≡ id → ⊥
-    go zero before = other
-    go (suc m) before = first m (omega arith)
-
-seen : (xs : List Train) (id n : ℕ) → Seen xs id n (place_in xs id n)
-unfolding place_in
-seen [] id n = λ j below. absurd (omega arith)
-seen (x ∷ xs) id n =
-    by_test (eqb x.id id)
-    (λ e. rw (e, place_in) (0, omega arith, omega arith, eqb-true _ _ e, λ m before. absurd (omega arith)))
-    (λ e. rw (e, place_in) (further x xs id n (place_in xs id (suc n)) (eqb-false _ _ e) (seen xs id (suc n))))
 
 -- ---- on the line
 
@@ -133,7 +104,7 @@ pub record Leaves (count : ℕ) (before after : Table) : Type 0 where
   pub trains : after.count ≡ count
   pub settings : after.settings ≡ before.settings
 
--- another record at place i (Places: still-there), and all others as they were
+-- another record at place i (Places: still_there), and all others as they were
 pub put_leaves : (t : Table) (i j : ℕ) (x : Train) → (j ≡ i → ⊥) → train_at (changed t (Put i x)) j ≡ train_at t j
 put_leaves t i j x other = get_or-set_other t.trains i j x blank_train other
 

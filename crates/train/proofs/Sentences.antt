@@ -139,7 +139,7 @@ motion_found x r = ap (λ (level : ℕ). record { head = r.head; speed = r.speed
     found k m (Drive c) = refl
     found k m Brake = refl
 
--- "Reach is the worst-case head ... under that order": the train's own, in its last motion (motion/proofs/OrderSentences: reach-driven, reach-braked)
+-- "Reach is the worst-case head ... under that order": the train's own, in its last motion (motion/proofs/OrderSentences: reach_driven, reach_braked)
 pub reach_under : (x : Train) → reach_of x ≡ reach x.figures x.motion x.order
 reach_under x = refl
 
@@ -151,7 +151,7 @@ unfolding moves stands
 moves_exactly k m = (only, exactly)
   where
     only : moves k m ≡ true → 0 < m.speed
-    only e = let moving = eqb-false m.speed 0 (not-true _ e) in omega arith
+    only e = let moving = eqb-false _ 0 (not-true _ e) in omega arith
 
     exactly : 0 < m.speed → moves k m ≡ true
     exactly h = rw (ne_eqb m.speed 0 (omega arith))

@@ -69,11 +69,11 @@ ordered x m o =
 unfoldable pub reported : Settings → Train → Reading → Train
 reported σ x r = ordered x (motion_after x r) (order_after σ x (motion_after x r))
 
--- The record is one that motion can be worked out from. No list of calls leaves another (safety/proofs/Bounds: always-computable).
+-- The record is one that motion can be worked out from. No list of calls leaves another (safety/proofs/Bounds: always_computable).
 unfoldable pub computable : Train → Bool
 computable x = in_bounds x.figures x.motion (order_cap x.order)
 
--- What a report is judged by. On a table that calls left this is `allowed` (safety/proofs/Bounds: report-judged); the rest keeps
+-- What a report is judged by. On a table that calls left this is `allowed` (safety/proofs/Bounds: report_judged); the rest keeps
 -- sums within 64 bits on any other table.
 unfoldable pub report_allowed : Settings → Train → Reading → Bool
 report_allowed σ x r = computable x && allowed x r && in_bounds x.figures (motion_after x r) σ.maxima.traction

@@ -1,6 +1,6 @@
 -- A worked list, line by line with its answers: the input and the output of the gate's run of the program (`stdin` and `stdout` of `session`).
 -- Trains of each load class drive and brake at speed, are extended, called back, held, lifted and taken off, or refused it. Each answer number
--- comes up. It is computed by the definitions, from bytes to bytes (proofs/Worked: worked-list).
+-- comes up. It is computed by the definitions, from bytes to bytes (proofs/Worked: worked_list).
 use Rattle.std.specs.Prelude.{ℕ, ◌-◌, true, false, List, [], ◌∷◌, ◌++◌, length, replicate}
 use Rattle.motion.specs.declared.Order.TheVariants.{Drive, Brake}
 use Rattle.calls.specs.declared.Opening.{Opening}

@@ -1,5 +1,5 @@
 -- `caps_code::close_in` meets its contract: low keeps the goal, high does not, and the two close in until one follows the other.
--- The measure is the number of trials that are left: at most 25 (Trials: trials-most).
+-- The measure is the number of trials that are left: at most 25 (Trials: trials_most).
 use Prim.Native.Nat.{ℕ, suc, ◌+◌, ◌-◌, ◌≤◌, ◌<◌}
 use mathlib.Core.Logic.{by_cases, inl, inr}
 use mathlib.Core.Path.{◌≡◌, refl, subst}
