@@ -3,13 +3,11 @@
 use Prim.Native.Nat.{ℕ, ◌≤◌}
 use mathlib.Core.Bool.{true}
 use mathlib.Core.Path.{◌≡◌}
-use native.Mathlib.Omega.{arith}
 use Rattle.logic.proofs.Tests.{both}
 use Rattle.ranges.specs.Ranges.{between}
 use Rattle.ranges.proofs.Ranges.{between_exactly}
-use Rattle.motion.proofs.Domination.{head_reach}
 use Rattle.train.specs.declared.Train.{Train}
-use Rattle.train.specs.Report.{reach_of, computable}
+use Rattle.train.specs.Report.{computable}
 use Rattle.acts.specs.Acts.{call_back_allowed}
 
 pub call_back_between : (x : Train) (place : ℕ) → call_back_allowed x place ≡ true → (x.motion.head ≤ place) × (place ≤ x.authority.end)

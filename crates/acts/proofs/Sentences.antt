@@ -3,14 +3,13 @@
 -- Assumes nothing.
 use Prim.Native.Nat.{ℕ, ◌+◌, ◌≤◌, ◌<◌}
 use mathlib.Core.Bool.{true, false, ◌&&◌}
-use mathlib.Core.Logic.{by_cases, ◌⊎◌, inl, inr, ◌↔◌}
+use mathlib.Core.Logic.{◌⊎◌, inl, inr, ◌↔◌}
 use mathlib.Core.Option.{none}
 use mathlib.Core.Path.{◌≡◌, refl, sym, subst, ◌∙◌}
-use native.Mathlib.Decide.{ℕ_discrete, dec_lt}
 use native.Mathlib.Omega.{arith}
 use lib.Dec.{leb, ltb, eqb}
 use borrow.Author.Tests.{le-leb, lt-leb, lt-ltb, le-ltb, eq-eqb, eqb-true, leb-false, ltb-false, not-false}
-use Rattle.logic.proofs.Tests.{by_test, both, not_both, neither}
+use Rattle.logic.proofs.Tests.{by_test, both, neither}
 use Rattle.ranges.specs.Ranges.{number_in_range, between}
 use Rattle.ranges.proofs.Ranges.{between_exactly}
 use Rattle.ranges.proofs.Sentences.{request_number}
@@ -24,7 +23,6 @@ use Rattle.calls.specs.declared.Reading.{Reading}
 use Rattle.calls.specs.declared.Extension.{Extension}
 use Rattle.calls.specs.declared.Act.{Act}
 use Rattle.calls.specs.declared.Act.TheVariants.{Report, Extend, CallBack, Hold, Lift}
-use Rattle.calls.specs.declared.Refusal.{Refusal}
 use Rattle.calls.specs.declared.Refusal.TheVariants.{NotAllowed, BadRequest, OldNumber, OtherLength, NoTrack, BadPlace, Pending}
 use Rattle.calls.specs.declared.Values.TheVariants.{Ordered, Extended, Zeros}
 use Rattle.calls.specs.Checks.{first_of}
@@ -277,18 +275,3 @@ act_leaves σ limit x (CallBack place) =
     (λ e. rw e (record { id = refl; start = refl; numbers = inr (refl, refl) }))
 act_leaves σ limit x Hold = record { id = refl; start = refl; numbers = inr (refl, refl) }
 act_leaves σ limit x Lift = record { id = refl; start = refl; numbers = inr (refl, refl) }
-
--- so the last accepted number never goes back
-pub number_onward : (σ : Settings) (limit : Limit) (x : Train) (a : Act) → first_of (decide σ limit x a).checks ≡ none
-    → x.authority.number ≤ (decide σ limit x a).after.authority.number
-number_onward σ limit x a passes = go (act_leaves σ limit x a).numbers
-  where
-    y : Train
-    y = (decide σ limit x a).after
-
-    go : ((q : Extension) × (a ≡ Extend q) × (y ≡ extended x q)) ⊎ ((y.authority.number ≡ x.authority.number) × (y.authority.length ≡ x.authority.length))
-        → x.authority.number ≤ y.authority.number
-    go (inl (q, e, longer)) =
-        let p = extension_accepted σ limit x q (subst (λ (b : Act). first_of (decide σ limit x b).checks ≡ none) e passes) in
-        rw (longer, p.number) p.onward
-    go (inr (number, length)) = omega arith

@@ -1,17 +1,20 @@
--- What an extension whose number was used may come to. It rests on the laws of each refusal (Sentences), and stands apart from them, so that a
--- wrong definition is refused there.
+-- Numbers that were used: what an extension with one may come to, and that the last accepted one never goes back. It rests on the laws of each
+-- refusal (Sentences), and stands apart from them, so that a wrong definition is refused there.
 -- Assumes nothing.
-use Prim.Native.Nat.{ℕ, ◌≤◌, ◌<◌}
-use mathlib.Core.Bool.{true, false}
+use Prim.Native.Nat.{◌≤◌, ◌<◌}
+use mathlib.Core.Bool.{true}
 use mathlib.Core.Logic.{by_cases, ◌⊎◌, inl, inr}
-use mathlib.Core.Path.{◌≡◌}
+use mathlib.Core.Option.{none}
+use mathlib.Core.Path.{◌≡◌, subst}
 use native.Mathlib.Decide.{ℕ_discrete, dec_lt}
 use native.Mathlib.Omega.{arith}
 use Rattle.logic.proofs.Tests.{by_test, not_both}
 use Rattle.calls.specs.declared.Extension.{Extension}
+use Rattle.calls.specs.declared.Act.{Act}
 use Rattle.calls.specs.declared.Act.TheVariants.{Extend}
 use Rattle.calls.specs.declared.Refusal.{Refusal}
 use Rattle.calls.specs.declared.Refusal.TheVariants.{BadRequest, OldNumber, OtherLength}
+use Rattle.calls.specs.Checks.{first_of}
 use Rattle.calls.specs.declared.Values.TheVariants.{Extended}
 use Rattle.train.specs.declared.Settings.{Settings}
 use Rattle.train.specs.declared.Authority.{Authority}
@@ -19,9 +22,9 @@ use Rattle.train.specs.declared.Train.{Train}
 use Rattle.train.specs.declared.Limit.{Limit}
 use Rattle.acts.specs.declared.Verdict.{Verdict}
 use Rattle.acts.specs.declared.Verdict.TheVariants.{TurnedDown, Passed}
-use Rattle.acts.specs.Acts.{request_in_range}
+use Rattle.acts.specs.Acts.{request_in_range, extended}
 use Rattle.acts.specs.Decide.{decide, verdict}
-use Rattle.acts.proofs.Sentences.{well_formed, ranged, extension_10, extension_11, extension_12, extension_repeated}
+use Rattle.acts.proofs.Sentences.{well_formed, ranged, extension_10, extension_11, extension_12, extension_repeated, extension_accepted, act_leaves}
 
 module _ (σ : Settings) (limit : Limit) (x : Train) (q : Extension) where
   abbrev extension : Verdict
@@ -45,3 +48,18 @@ module _ (σ : Settings) (limit : Limit) (x : Train) (q : Extension) where
       (λ same. inr (extension_repeated σ limit x q a above last same))
       (λ other. inl (OtherLength, extension_12 σ limit x q a above last other))))
       (λ e. inl (BadRequest, extension_10 σ limit x q (λ a. not_both (ranged σ q a) e)))
+
+-- the last accepted number never goes back
+pub number_onward : (σ : Settings) (limit : Limit) (x : Train) (a : Act) → first_of (decide σ limit x a).checks ≡ none
+    → x.authority.number ≤ (decide σ limit x a).after.authority.number
+number_onward σ limit x a passes = go (act_leaves σ limit x a).numbers
+  where
+    y : Train
+    y = (decide σ limit x a).after
+
+    go : ((q : Extension) × (a ≡ Extend q) × (y ≡ extended x q)) ⊎ ((y.authority.number ≡ x.authority.number) × (y.authority.length ≡ x.authority.length))
+        → x.authority.number ≤ y.authority.number
+    go (inl (q, e, longer)) =
+        let p = extension_accepted σ limit x q (subst (λ (b : Act). first_of (decide σ limit x b).checks ≡ none) e passes) in
+        rw (longer, p.number) p.onward
+    go (inr (number, length)) = omega arith

@@ -39,7 +39,7 @@ use Rattle.table.proofs.Sentences.{zero_record, found_exactly, absent_exactly, a
 use Rattle.line.specs.declared.Decision.{Decision}
 use Rattle.line.specs.Decide.{refused, ruling_at, decide_on, out_of_turn, decided}
 use Rattle.line.specs.Step.{requested, no_table}
-use Rattle.line.specs.Preview.{shown_by, needs_opening, previewed}
+use Rattle.line.specs.Preview.{needs_opening, previewed}
 use Rattle.line.proofs.Steps.{Admitted, any_call, any_request, open_taken, open_refused}
 use Rattle.line.proofs.Rules.{Kept, decision_kept, open_3, open_accepted}
 use Rattle.line.proofs.Stays.{Holds}

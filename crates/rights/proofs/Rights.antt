@@ -9,7 +9,6 @@ use native.Mathlib.Omega.{arith}
 use lib.Dec.{eqb}
 use borrow.Author.Tests.{eq-eqb, eqb-true}
 use Rattle.logic.proofs.Tests.{by_test, both}
-use Rattle.ranges.specs.Ranges.{id_in_range}
 use Rattle.ranges.proofs.Sentences.{train_id}
 use Rattle.calls.specs.declared.Opening.{Opening}
 use Rattle.calls.specs.declared.Entry.{Entry}

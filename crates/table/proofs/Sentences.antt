@@ -1,18 +1,15 @@
 -- Which train an id names, what a change leaves at each place, and the limit there, said a second time: in places, ids and sums.
 -- Assumes nothing.
-use Prim.Native.Nat.{ℕ, zero, suc, ◌+◌, ◌-◌, ◌*◌, ◌≤◌, ◌<◌}
+use Prim.Native.Nat.{ℕ, suc, ◌+◌, ◌-◌, ◌*◌, ◌≤◌, ◌<◌}
 use mathlib.Core.Bool.{false}
-use mathlib.Core.List.{List, [], ◌∷◌}
+use mathlib.Core.List.{List}
 use mathlib.Core.Logic.{by_cases, ◌↔◌}
 use mathlib.Core.Option.{Option, none, some}
 use mathlib.Core.Path.{◌≡◌, refl, sym, ap, ◌∙◌, subst}
 use native.Mathlib.Decide.{dec_lt}
 use native.Mathlib.Omega.{arith}
-use lib.Dec.{eqb}
-use lib.ListN.{length, get_or}
+use lib.ListN.{get_or}
 use lib.Seq.{get_or-set_same, get_or-set_other, get_or-drop}
-use borrow.Author.Tests.{eqb-true, eqb-false}
-use Rattle.logic.proofs.Tests.{by_test}
 use Rattle.motion.specs.declared.Order.TheVariants.{Drive}
 use Rattle.calls.specs.declared.Opening.{Opening}
 use Rattle.train.specs.declared.Train.{Train}
@@ -22,7 +19,7 @@ use Rattle.train.proofs.Track.{InLimit}
 use Rattle.train.proofs.Sentences.{limit_of_the_first, limit_behind_lem}
 use Rattle.table.specs.declared.Table.{Table}
 use Rattle.table.specs.declared.Change.TheVariants.{Put, Add, DropFirst, Anew}
-use Rattle.table.specs.Table.{blank_train, on_line, place_in, place_of, train_at, ahead_of, limit_at, changed}
+use Rattle.table.specs.Table.{blank_train, on_line, place_of, train_at, ahead_of, limit_at, changed}
 use Rattle.table.proofs.Seen.{id_at, Seen, seen}
 use Rattle.table.proofs.Trains.{Sized, line_length, train_on_line, line_without_first}
 
