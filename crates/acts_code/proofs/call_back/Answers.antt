@@ -1,7 +1,7 @@
 -- `acts_code::call_back` meets its contract.
 use mathlib.Core.Path.{sym, ◌∙◌}
 use Rattle.acts.proofs.Verdicts.{call_back_refused, call_back_taken}
-use Rattle.acts.proofs.Sentences.{call_back_computes}
+use Rattle.acts.proofs.CallBacks.{call_back_computes}
 use Rattle.acts_code.proofs.call_back.Goals as goal
 
 pub returns-then-not-call_back_allowed : goal.returns-then-not-call_back_allowed
