@@ -40,7 +40,7 @@ build() {
     local report
     echo "$name: proving and building the program; this takes some minutes the first time" >&2
     need "$name"
-    if ! report="$(cd "$here" && rt run "$name" </dev/null 2>&1 | show_crates "${#needed[@]}")"; then
+    if ! report="$(cd "$here/crates/$name" && rt run </dev/null 2>&1 | show_crates "${#needed[@]}")"; then
         printf '%s\n' "$report" >&2
         exit 1
     fi

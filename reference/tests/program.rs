@@ -307,9 +307,8 @@ session: one two io
 desk: two io
 ";
 
-/// A made-up prover that writes the program that it is to prove.
-const WRITES: &str =
-    "to=crates/$2/out; mkdir -p $to; echo 'echo run' > $to/$2; chmod +x $to/$2";
+/// A made-up prover that writes the program of the crate in whose folder it runs.
+const WRITES: &str = "to=out/${PWD##*/}; mkdir -p out; echo 'echo run' > $to; chmod +x $to";
 
 /// A project with a copy of a script, in which nothing has to be proved.
 struct Project {
@@ -321,7 +320,7 @@ impl Project {
     fn new(script: &'static str, test: &str) -> Project {
         let name = format!("{test}-{script}-{}", std::process::id());
         let path = Path::new(env!("CARGO_TARGET_TMPDIR")).join(name);
-        fs::create_dir_all(path.join("crates")).expect("a folder");
+        fs::create_dir_all(path.join("crates").join(script)).expect("a folder");
         for file in [script, STARTER] {
             fs::copy(of_project(file), path.join(file)).expect("a copy");
         }
@@ -377,9 +376,9 @@ fn script_shows_each_crate_when_it_is_done() {
             "echo 'crate one: modules loaded=0 checked=5'; echo 'logic=proved functions=1'
             echo fn two::f: proved; echo 'crate two: modules loaded=5 checked=2'
             echo 'logic=proved functions=2'
-            while [ ! -e seen ]; do sleep 0.01; done
-            echo \"crate $2: modules loaded=7 checked=1\"; echo 'logic=proved functions=3'
-            echo \"rt: running out/$2; to give it other input, run that file yourself\"
+            while [ ! -e ../../seen ]; do sleep 0.01; done
+            echo \"crate ${{PWD##*/}}: modules loaded=7 checked=1\"; echo 'logic=proved functions=3'
+            echo \"rt: running out/${{PWD##*/}}; to give it other input, run that file yourself\"
             {WRITES}"
         ));
         let mut told = BufReader::new(child.stderr.take().expect("its errors")).lines();
@@ -401,11 +400,10 @@ fn script_shows_all_where_the_proof_fails() {
     for script in SCRIPTS {
         let project = Project::new(script, "refused");
         let child = project
-            .start("echo 'crate one: modules loaded=0 checked=5'; echo error: no; echo \"rt: FAILED: $2\"; exit 3");
+            .start("echo 'crate one: modules loaded=0 checked=5'; echo error: no; echo \"rt: FAILED: ${PWD##*/}\"; exit 3");
         let ended = Ended::of(child.wait_with_output().expect("the script ends"));
-        let report = format!(
-            "crate one: modules loaded=0 checked=5\nerror: no\nrt: FAILED: {script}\n"
-        );
+        let report =
+            format!("crate one: modules loaded=0 checked=5\nerror: no\nrt: FAILED: {script}\n");
         assert_eq!(ended.status, Some(1));
         assert!(ended.told.ends_with(&report), "{}", ended.told);
         assert_eq!(ended.answers, "");
