@@ -1,4 +1,5 @@
 pub mod Verdicts
+pub mod Forms
 pub mod CallBacks
 pub mod Sentences
 pub mod Used

@@ -10,9 +10,7 @@ use native.Mathlib.Omega.{arith}
 use lib.Dec.{leb, ltb, eqb}
 use borrow.Author.Tests.{le-leb, lt-leb, lt-ltb, le-ltb, eq-eqb, eqb-true, leb-false, ltb-false, not-false}
 use Rattle.logic.proofs.Tests.{by_test, both, neither}
-use Rattle.ranges.specs.Ranges.{number_in_range, between}
 use Rattle.ranges.proofs.Ranges.{between_exactly}
-use Rattle.ranges.proofs.Sentences.{request_number}
 use Rattle.motion.specs.declared.Motion.{Motion}
 use Rattle.motion.specs.declared.Order.TheVariants.{Brake}
 use Rattle.motion.specs.Motion.{stands}
@@ -41,6 +39,7 @@ use Rattle.train.proofs.Track.{InLimit, limit_within, limit_beyond}
 use Rattle.train.proofs.Records.{report_passed}
 use Rattle.train.proofs.Sentences.{Allows, report_exactly, level_found, motion_found, penalty_order}
 use Rattle.train.proofs.Pending.{settled_numbers}
+use Rattle.acts.proofs.Forms.{WellFormed, well_formed, ranged}
 use Rattle.acts.proofs.CallBacks.{call_back_between, call_back_tested}
 use Rattle.acts.proofs.Verdicts.{report_refused, report_taken, extend_bad, extend_old, extend_other, extend_repeat, extend_pending, extend_beyond, extend_new, call_back_refused, call_back_taken}
 
@@ -72,26 +71,6 @@ module _ (σ : Settings) (limit : Limit) (x : Train) (r : Reading) where
   report_answered e = subst AnsweredBy (motion_found x r) (report_taken σ x r e)
 
 -- ---- extend
-
--- "request number 1 to 4,294,967,295", "a length of 1 to the line end"
-pub record WellFormed (σ : Settings) (q : Extension) : Type 0 where
-  pub number_least : 1 ≤ q.number
-  pub number_most : q.number ≤ 4294967295
-  pub length_least : 1 ≤ q.length
-  pub length_most : q.length ≤ σ.end
-
-pub well_formed : (σ : Settings) (q : Extension) → request_in_range σ q ≡ true → WellFormed σ q
-unfolding request_in_range
-well_formed σ q e =
-    let tests = both (number_in_range q.number) (between 1 σ.end q.length) e in
-    let number = (request_number q.number).0 tests.0 in
-    let length = (between_exactly 1 σ.end q.length).0 tests.1 in
-    record { number_least = number.0; number_most = number.1; length_least = length.0; length_most = length.1 }
-
-pub ranged : (σ : Settings) (q : Extension) → WellFormed σ q → request_in_range σ q ≡ true
-unfolding request_in_range
-ranged σ q a =
-    rw ((request_number q.number).1 (a.number_least, a.number_most), (between_exactly 1 σ.end q.length).1 (a.length_least, a.length_most))
 
 module _ (σ : Settings) (limit : Limit) (x : Train) (q : Extension) where
   abbrev extension : Verdict

@@ -24,7 +24,8 @@ use Rattle.calls.specs.Answers.{numbers_of}
 use Rattle.calls.specs.Requests.{request}
 use Rattle.calls.proofs.Answers.{refusal_range}
 use Rattle.rights.specs.Rights.{may_ask}
-use Rattle.rights.proofs.Rights.{Right, opens, no_right}
+use Rattle.rights.proofs.Callers.{Right, opens}
+use Rattle.rights.proofs.Rights.{no_right}
 use Rattle.train.specs.declared.Train.{Train}
 use Rattle.train.specs.Record.{entering}
 use Rattle.train.specs.Ranges.{settings_in_range}

@@ -30,7 +30,8 @@ use Rattle.calls.specs.Requests.{request}
 use Rattle.rights.specs.Rights.{may_ask}
 use Rattle.calls.proofs.Answers.{accepted_0}
 use Rattle.calls.proofs.Checks.{each, refused_by}
-use Rattle.rights.proofs.Rights.{Right, right_exactly, no_right}
+use Rattle.rights.proofs.Callers.{Right}
+use Rattle.rights.proofs.Rights.{right_exactly, no_right}
 use Rattle.train.specs.Record.{figures_for}
 use Rattle.table.specs.declared.Table.{Table}
 use Rattle.table.specs.declared.Change.{Change}

@@ -1,46 +1,21 @@
 -- Document 02, (iii), said a second time, by caller and in numbers: who may call what, and nobody else. A right that is given or lost in the
 -- definition and in the code alike is refused here.
 -- Assumes nothing.
-use Prim.Native.Nat.{ℕ, ◌≤◌, ◌<◌}
+use Prim.Native.Nat.{ℕ, ◌<◌}
 use mathlib.Core.Bool.{true, false}
 use mathlib.Core.Logic.{◌↔◌}
 use mathlib.Core.Path.{◌≡◌, refl, sym, subst}
 use native.Mathlib.Omega.{arith}
 use lib.Dec.{eqb}
 use borrow.Author.Tests.{eq-eqb, eqb-true}
-use Rattle.logic.proofs.Tests.{by_test, both}
+use Rattle.logic.proofs.Tests.{by_test}
 use Rattle.ranges.proofs.Sentences.{train_id}
-use Rattle.calls.specs.declared.Opening.{Opening}
-use Rattle.calls.specs.declared.Entry.{Entry}
-use Rattle.calls.specs.declared.Reading.{Reading}
-use Rattle.calls.specs.declared.Extension.{Extension}
 use Rattle.calls.specs.declared.Act.TheVariants.{Report, Extend, CallBack, Hold, Lift}
 use Rattle.calls.specs.declared.Call.TheVariants.{Enter, Own, TakeOff}
 use Rattle.calls.specs.declared.Ask.{Ask}
 use Rattle.calls.specs.declared.Ask.TheVariants.{Open, OnTable}
-use Rattle.rights.specs.Rights.{is_train, may_ask}
-
--- the caller with this number has the right to what is asked
-pub data Right : ℕ → Ask → Type 0 where
-  -- "1 to 65535 the train of that id": "A train may report and extend for itself only"
-  reports : {id : ℕ} {r : Reading} → 1 ≤ id → id ≤ 65535 → Right id (OnTable (Own id (Report r)))
-  extends : {id : ℕ} {q : Extension} → 1 ≤ id → id ≤ 65535 → Right id (OnTable (Own id (Extend q)))
-  -- "0 dispatcher": "the dispatcher opens, calls back, holds and lifts"
-  opens : {o : Opening} → Right 0 (Open o)
-  calls_back : {id place : ℕ} → Right 0 (OnTable (Own id (CallBack place)))
-  holds : {id : ℕ} → Right 0 (OnTable (Own id Hold))
-  lifts : {id : ℕ} → Right 0 (OnTable (Own id Lift))
-  -- "70000 yard": "the yard enters and takes off"
-  enters : {e : Entry} → Right 70000 (OnTable (Enter e))
-  takes_off : {id : ℕ} → Right 70000 (OnTable (TakeOff id))
-
--- the train of this id
-itself : (id n : ℕ) (a : Ask) → (1 ≤ id → id ≤ 65535 → Right id a) → is_train id n ≡ true → Right n a
-itself id n a right e =
-    let tests = both _ _ e in
-    let same : n ≡ id = eqb-true n id tests.1 in
-    let range = (train_id n).0 tests.0 in
-    subst (λ (m : ℕ). Right m a) (sym same) (right (omega arith) (omega arith))
+use Rattle.rights.specs.Rights.{may_ask}
+use Rattle.rights.proofs.Callers.{Right, reports, extends, opens, calls_back, holds, lifts, enters, takes_off, itself}
 
 -- the one caller with this number
 only : (m n : ℕ) (a : Ask) → Right m a → (eqb n m ≡ true) → Right n a

@@ -36,8 +36,10 @@ use Rattle.train.specs.Report.{order_after, is_penalty, settled}
 use Rattle.train.proofs.Track.{InLimit}
 use Rattle.train.specs.Ranges.{WorksWith}
 use Rattle.train.proofs.Records.{free_order}
-use Rattle.train.proofs.Sentences.{Allows, report_exactly, level_found, penalty_order, held_order, as_usual, free_drives, free_brakes, mark_exactly}
-use Rattle.acts.proofs.Sentences.{report_9, report_answered, WellFormed, extension_10, extension_11, extension_12, extension_repeated, extension_17, extension_13, extension_taken, call_back_moves, call_back_pends, call_back_14, hold_marks, lift_unmarks}
+use Rattle.train.proofs.Usual.{as_usual}
+use Rattle.train.proofs.Sentences.{Allows, report_exactly, level_found, penalty_order, held_order, free_drives, free_brakes, mark_exactly}
+use Rattle.acts.proofs.Forms.{WellFormed}
+use Rattle.acts.proofs.Sentences.{report_9, report_answered, extension_10, extension_11, extension_12, extension_repeated, extension_17, extension_13, extension_taken, call_back_moves, call_back_pends, call_back_14, hold_marks, lift_unmarks}
 use Rattle.table.specs.declared.Table.{Table}
 use Rattle.table.specs.declared.Change.TheVariants.{Put}
 use Rattle.table.specs.Table.{place_of, train_at, limit_at, changed}

@@ -28,7 +28,8 @@ use Rattle.acts.specs.declared.Verdict.TheVariants.{TurnedDown, Passed}
 use Rattle.acts.specs.Acts.{is_repeat, extended}
 use Rattle.acts.specs.Decide.{decide, verdict}
 use Rattle.acts.proofs.Used.{extension_used, number_onward}
-use Rattle.acts.proofs.Sentences.{WellFormed, extension_repeated, extension_accepted, Leaves, act_leaves}
+use Rattle.acts.proofs.Forms.{WellFormed}
+use Rattle.acts.proofs.Sentences.{extension_repeated, extension_accepted, Leaves, act_leaves}
 use Rattle.table.specs.declared.Table.{Table}
 use Rattle.table.specs.Table.{place_of, train_at, limit_at}
 use Rattle.table.proofs.Places.{found_below, still_found, still_there, put_same}

@@ -17,7 +17,7 @@ use Rattle.calls.specs.declared.RequestRead.TheVariants.{Read, Unreadable}
 use Rattle.calls.specs.Answers.{numbers, numbers_of}
 use Rattle.calls.specs.Requests.{request}
 use Rattle.rights.specs.Rights.{may_ask}
-use Rattle.rights.proofs.Rights.{Right}
+use Rattle.rights.proofs.Callers.{Right}
 use Rattle.train.specs.Ranges.{settings_of}
 use Rattle.train.proofs.Sentences.{Offers}
 use Rattle.table.specs.declared.Table.{Table}

@@ -24,7 +24,7 @@ use Rattle.train.specs.declared.Train.{Train}
 use Rattle.train.specs.Record.{wanting, is_pending}
 use Rattle.train.specs.Report.{moves, order_after, settled, ordered}
 use Rattle.train.proofs.Records.{may_order}
-use Rattle.train.proofs.Sentences.{moves_exactly}
+use Rattle.train.proofs.Moves.{moves_exactly}
 
 -- a wanted place, and nothing else
 pub place_wanted : (a : Authority) (place : ℕ) → wanting a place ≡ record { end = a.end; goal = place; start = a.start; number = a.number; length = a.length }

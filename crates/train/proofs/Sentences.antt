@@ -3,18 +3,16 @@
 -- Assumes nothing.
 use Prim.Native.Nat.{ℕ, ◌+◌, ◌*◌, ◌≤◌, ◌<◌}
 use mathlib.Core.Bool.{true, false}
-use mathlib.Core.Logic.{◌⊎◌, inl, inr, ◌↔◌}
+use mathlib.Core.Logic.{◌⊎◌, ◌↔◌}
 use mathlib.Core.Option.{none, some}
 use mathlib.Core.Path.{◌≡◌, refl, ap}
-use native.Mathlib.Omega.{arith}
-use borrow.Author.Tests.{ne_eqb, eqb-false, not-true}
-use Rattle.logic.proofs.Tests.{by_test, both}
+use Rattle.logic.proofs.Tests.{both}
 use Rattle.ranges.specs.Ranges.{line_end_in_range, safety_in_range, ceiling_in_range, traction_in_range}
 use Rattle.ranges.proofs.Sentences.{line_end, safety_distance, speed_ceiling, greatest_traction_lem}
 use Rattle.motion.specs.declared.Motion.{Motion}
 use Rattle.motion.specs.declared.Order.{Order}
 use Rattle.motion.specs.declared.Order.TheVariants.{Drive, Brake}
-use Rattle.motion.specs.Motion.{brake_travel, brake_speed, next_level, drive_travel, drive_speed, stands, stopping_distance}
+use Rattle.motion.specs.Motion.{brake_travel, brake_speed, next_level, drive_travel, drive_speed, stopping_distance}
 use Rattle.motion.specs.Orders.{is_brake, worst_case, reach}
 use Rattle.motion.proofs.Sentences.{brake_tested}
 use Rattle.motion.proofs.OrderSentences.{GreatestCap, drive_exactly, brake_at_zero}
@@ -30,8 +28,10 @@ use Rattle.train.specs.declared.Train.{Train}
 use Rattle.train.specs.Ranges.{settings_in_range}
 use Rattle.train.specs.Record.{fresh_authority, ending_at, entering, same}
 use Rattle.train.specs.Track.{steps_of, limit_behind}
-use Rattle.train.specs.Report.{reach_of, allowed, motion_after, moves, must_brake, order_after, is_penalty, ordered}
+use Rattle.train.specs.Report.{reach_of, allowed, motion_after, moves, order_after, is_penalty, ordered}
 use Rattle.train.proofs.Track.{InLimit, limit_first, in_behind, behind_in}
+use Rattle.train.proofs.Moves.{moves_exactly}
+use Rattle.train.proofs.Usual.{as_usual}
 use Rattle.train.proofs.Records.{within_worst, held_brakes, penalty_brakes, free_order}
 
 -- ---- the settings
@@ -145,17 +145,6 @@ reach_under x = refl
 
 -- ---- orders
 
--- document 02, (ii): a train moves until a report has speed 0
-pub moves_exactly : (k : Figures) (m : Motion) → (moves k m ≡ true) ↔ (0 < m.speed)
-unfolding moves stands
-moves_exactly k m = (only, exactly)
-  where
-    only : moves k m ≡ true → 0 < m.speed
-    only e = let moving = eqb-false _ 0 (not-true _ e) in omega arith
-
-    exactly : 0 < m.speed → moves k m ≡ true
-    exactly h = rw (ne_eqb m.speed 0 (omega arith))
-
 module _ (σ : Settings) (x : Train) (m : Motion) where
   -- "a brake order, once given to a moving train, is repeated at each report"; "a marked train gets brake": whatever its track, held or not
   pub penalty_order : x.marks.penalty ≡ true → 0 < m.speed → order_after σ x m ≡ Brake
@@ -168,26 +157,15 @@ module _ (σ : Settings) (x : Train) (m : Motion) where
   -- "demand 2's rules for the greatest cap and for brake hold for unmarked trains"; "until one with speed 0 is accepted, whose own order is
   -- worked out as usual"
   module _ (free : x.marks.held ≡ false) (unmarked : (x.marks.penalty ≡ false) ⊎ (m.speed ≡ 0)) where
-    pub as_usual : must_brake x m ≡ false
-    unfolding must_brake
-    as_usual = go unmarked
-      where
-        go : (x.marks.penalty ≡ false) ⊎ (m.speed ≡ 0) → must_brake x m ≡ false
-        go (inl clear) = rw (clear, free)
-        go (inr standing) =
-            by_test (moves x.figures m)
-            (λ e. let moving = (moves_exactly x.figures m).0 e in absurd (omega arith))
-            (λ e. by_test x.marks.penalty (λ f. rw (f, e, free)) (λ f. rw (f, free)))
-
     -- "Otherwise drive with the greatest cap c from 0 to A where v + c is at most V and the reach is at most the end of authority."
     -- Document 02, (vi): "Orders are then worked out against the wanted place, which stands for the end in demand 2's rules".
     pub free_drives : (c : ℕ) → (order_after σ x m ≡ Drive c) ↔ GreatestCap x.figures σ.maxima x.authority.goal m c
-    free_drives c = rw (free_order σ x m as_usual) (drive_exactly x.figures σ.maxima x.authority.goal m c)
+    free_drives c = rw (free_order σ x m (as_usual σ x m free unmarked)) (drive_exactly x.figures σ.maxima x.authority.goal m c)
 
     -- "No such c: brake."
     pub free_brakes : Sound x.figures → (order_after σ x m ≡ Brake)
         ↔ ((σ.maxima.ceiling < m.speed) ⊎ (x.authority.goal < m.head + 2 * m.speed + stopping_distance x.figures m.speed 0))
-    free_brakes s = rw (free_order σ x m as_usual) (brake_at_zero x.figures σ.maxima x.authority.goal m s)
+    free_brakes s = rw (free_order σ x m (as_usual σ x m free unmarked)) (brake_at_zero x.figures σ.maxima x.authority.goal m s)
 
 -- ---- the mark
 

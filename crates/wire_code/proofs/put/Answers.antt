@@ -1,13 +1,27 @@
 -- `wire_code::put` meets its contract.
-use Prim.Native.Nat.{ℕ, suc, ◌-◌, ◌<◌}
+use Prim.Native.Nat.{ℕ, suc, ◌+◌, ◌-◌, ◌/◌, ◌<◌}
+use mathlib.Core.List.{List}
 use native.Mathlib.Omega.{arith}
 use mathlib.Core.Path.{◌≡◌, refl, sym, ap, ◌∙◌}
-use lib.ListN.{length-set}
+use lib.ListN.{length, set, length-set}
 use lib.Seq.{paste}
 use borrow.Author.Tests.{ne_eqb, ltb-true, ltb-false}
-use Rattle.wire.specs.Format.{text}
-use Rattle.wire_code.proofs.Texts.{spaces_kept, blanked_put, put_last, putting_next, putting_done}
+use Rattle.wire.specs.Format.{text, digit_of}
+use Rattle.wire_code.specs.Columns.{Blanked}
+use Rattle.wire_code.proofs.Texts.{spaces_kept, blanked_put, put_last, Putting, putting_next, putting_done}
 use Rattle.wire_code.proofs.put.Goals as goal
+
+-- A blanked place, with the last digit and then the others written, has the number.
+number_put : {l₀ l out : List ℕ} {at b i rest : ℕ} (w n : ℕ) → Blanked l₀ at w l → 0 < w → at + (w - 1) < length l → b ≡ digit_of n
+    → Putting (set l (at + (w - 1)) b) at (w - 1) (n / 10) out i rest → (0 < i → rest ≡ 0) → out ≡ paste l₀ at (text w n) w
+number_put {l = l} {at = at} w n blanked some room digit putting none =
+    let last : w ≡ suc (w - 1) = omega arith in
+    sym (
+    blanked_put blanked (text w n)
+    ∙ ap (λ (v : ℕ). paste l at (text v n) v) last
+    ∙ put_last l at (w - 1) n _ room digit
+    ∙ putting_done putting none
+    )
 
 pub overflow_sub-i : goal.overflow_sub-i
 overflow_sub-i c = omega arith
@@ -46,7 +60,7 @@ loop-i-preserved c =
     putting_next c.loop-i.invariant (omega arith) (rw more c.last_digit-in-loop-i.ensures)
 
 pub returns-else-rest-gt0 : goal.returns-else-rest-gt0
-returns-else-rest-gt0 c = (let done : (0 < c.loop-i.i → c.loop-i.rest ≡ 0) → let a = c.args in c.loop-i.out ≡ paste a.out.now a.at (text a.width a.n) a.width = λ none. let a = c.args in let at = a.at in let l = c.blank.new.out in let last : a.width ≡ suc (a.width - 1) = omega arith in sym (blanked_put c.blank.ensures (text a.width a.n) ∙ ap (λ (w : ℕ). paste l at (text w a.n) w) last ∙ put_last l at (a.width - 1) a.n _ (omega arith) c.last_digit.ensures ∙ putting_done c.loop-i.invariant none) in done) (λ h. omega (arith, ltb-false))
+returns-else-rest-gt0 c = number_put c.args.width c.args.n c.blank.ensures (omega arith) (omega arith) c.last_digit.ensures c.loop-i.invariant (λ h. omega (arith, ltb-false))
 
 pub returns-after-loop-i : goal.returns-after-loop-i
-returns-after-loop-i c = (let done : (0 < c.loop-i.i → c.loop-i.rest ≡ 0) → let a = c.args in c.loop-i.out ≡ paste a.out.now a.at (text a.width a.n) a.width = λ none. let a = c.args in let at = a.at in let l = c.blank.new.out in let last : a.width ≡ suc (a.width - 1) = omega arith in sym (blanked_put c.blank.ensures (text a.width a.n) ∙ ap (λ (w : ℕ). paste l at (text w a.n) w) last ∙ put_last l at (a.width - 1) a.n _ (omega arith) c.last_digit.ensures ∙ putting_done c.loop-i.invariant none) in done) (λ h. omega arith)
+returns-after-loop-i c = number_put c.args.width c.args.n c.blank.ensures (omega arith) (omega arith) c.last_digit.ensures c.loop-i.invariant (λ h. omega arith)
