@@ -12,7 +12,7 @@ use Rattle.motion.specs.Orders.{reach}
 use Rattle.motion.proofs.Bounds.{bounded_cap}
 use Rattle.motion.proofs.Orders.{reach_mono}
 use Rattle.caps_code.specs.declared.Gap.{Gap}
-use Rattle.caps_code.specs.Search.{Closing}
+use Rattle.caps_code.specs.Search.{Closing, Next}
 use Rattle.caps_code.proofs.Trials.{listed_below, found, trials_left, fewer_left, trials_most}
 use Rattle.caps_code.proofs.close_in.Goals as goal
 
@@ -25,6 +25,15 @@ apart {k = k} {m = m} gap sides =
     let no_further = reach_mono k m gap.high gap.low sides.below.bounded.figures (omega arith) in
     absurd (omega (arith, sides.reached, sides.keeps, sides.below.reached, sides.below.over)))
 
+-- whichever end moves to the cap tried, fewer trials are left
+fewer_above : {trials c : ℕ} {gap : Gap} → Next trials gap c
+    → trials_left (trials + 1) (gap.high - c - 1) < trials_left trials (gap.high - gap.low - 1)
+fewer_above next = fewer_left _ _ _ _ next (inr refl)
+
+fewer_below : {trials c : ℕ} {gap : Gap} → Next trials gap c
+    → trials_left (trials + 1) (c - gap.low - 1) < trials_left trials (gap.high - gap.low - 1)
+fewer_below next = fewer_left _ _ _ _ next (inl refl)
+
 pub loop-gap-init : goal.loop-gap-init
 loop-gap-init c =
     let sides = c.requires.0 in
@@ -33,27 +42,19 @@ loop-gap-init c =
 pub overflow_add-gap : goal.overflow_add-gap
 overflow_add-gap c = let sides = c.loop-gap.invariant.sides in omega (arith, apart c.loop-gap.gap sides, sides.below.bounded.cap)
 
-pub next_cap-c-requires : goal.next_cap-c-requires
-next_cap-c-requires c =
-    let sides = c.loop-gap.invariant.sides in
-    record { between = c.loop-gap-test.true; keeps = sides.keeps; over = sides.below.over }
-
 pub trial-tried-requires : goal.trial-tried-requires
 trial-tried-requires c =
     let bounded = c.requires.0.below.bounded in
     let below : c.next_cap-c.result ≤ c.args.start.high = omega (arith, c.next_cap-c.ensures.below, c.loop-gap.invariant.within) in
     (bounded_cap bounded below, listed_below c.args.m.speed bounded.figures below c.requires.1)
 
-pub overflow_add-trials : goal.overflow_add-trials
-overflow_add-trials c = omega (arith, c.loop-gap.invariant.few)
-
 pub loop-gap-smaller-then-tried-goal : goal.loop-gap-smaller-then-tried-goal
-loop-gap-smaller-then-tried-goal c = (let fewer_above : let l = c.loop-gap in trials_left (l.trials + 1) (l.gap.high - c.next_cap-c.result - 1) < trials_left l.trials (l.gap.high - l.gap.low - 1) = let l = c.loop-gap in fewer_left l.trials l.gap c.next_cap-c.result _ c.next_cap-c.ensures (inr refl) in fewer_above)
+loop-gap-smaller-then-tried-goal c = fewer_above c.next_cap-c.ensures
 
 pub loop-gap-preserved-then-tried-goal : goal.loop-gap-preserved-then-tried-goal
 loop-gap-preserved-then-tried-goal c =
     let inv = c.loop-gap.invariant in
-    let less = (let fewer_above : let l = c.loop-gap in trials_left (l.trials + 1) (l.gap.high - c.next_cap-c.result - 1) < trials_left l.trials (l.gap.high - l.gap.low - 1) = let l = c.loop-gap in fewer_left l.trials l.gap c.next_cap-c.result _ c.next_cap-c.ensures (inr refl) in fewer_above) in
+    let less = fewer_above c.next_cap-c.ensures in
     record {
       sides = record { below = inv.sides.below; reached = c.trial-tried.ensures; keeps = c.if-tried-goal.true };
       within = inv.within;
@@ -61,16 +62,20 @@ loop-gap-preserved-then-tried-goal c =
     }
 
 pub loop-gap-smaller : goal.loop-gap-smaller
-loop-gap-smaller c = (let fewer_below : let l = c.loop-gap in trials_left (l.trials + 1) (c.next_cap-c.result - l.gap.low - 1) < trials_left l.trials (l.gap.high - l.gap.low - 1) = let l = c.loop-gap in fewer_left l.trials l.gap c.next_cap-c.result _ c.next_cap-c.ensures (inl refl) in fewer_below)
+loop-gap-smaller c = fewer_below c.next_cap-c.ensures
 
 pub loop-gap-preserved : goal.loop-gap-preserved
 loop-gap-preserved c =
     let inv = c.loop-gap.invariant in
     let next = c.next_cap-c.ensures in
-    let less = (let fewer_below : let l = c.loop-gap in trials_left (l.trials + 1) (c.next_cap-c.result - l.gap.low - 1) < trials_left l.trials (l.gap.high - l.gap.low - 1) = let l = c.loop-gap in fewer_left l.trials l.gap c.next_cap-c.result _ c.next_cap-c.ensures (inl refl) in fewer_below) in
+    let less = fewer_below next in
     record {
       sides = record {
-        below = record { bounded = bounded_cap inv.sides.below.bounded (omega (arith, next.below)); reached = c.trial-tried.ensures; over = omega (arith, c.if-tried-goal.false) };
+        below = record {
+          bounded = bounded_cap inv.sides.below.bounded (omega (arith, next.below));
+          reached = c.trial-tried.ensures;
+          over = omega (arith, c.if-tried-goal.false);
+        };
         reached = inv.sides.reached;
         keeps = inv.sides.keeps;
       };
