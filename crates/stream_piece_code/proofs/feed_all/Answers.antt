@@ -46,9 +46,9 @@ line_answered {s = s} all v more read decided written told u made trains long en
     (ap (λ (o : Bool). session o u) told ∙ ap (session _) made) trains _ long _ end
 
 -- The table has the place that its change needs.
-change_fits : {opened : Bool} {t : Table} {q : RequestRead} {d : Decision} {c : Change} → length t.trains ≡ places
+change_fits : (opened : Bool) (t : Table) (q : RequestRead) {d : Decision} {c : Change} → length t.trains ≡ places
     → d ≡ line_decision (session opened t) q → d.change ≡ c → Fits t c
-change_fits {opened = opened} {t = t} {d = d} long decided is = subst (Fits t) is (line_fits (session opened t) long _ d decided)
+change_fits opened t q {d} all decided is = subst (Fits t) is (line_fits (session opened t) all q d decided)
 
 pub loop-to-init : goal.loop-to-init
 loop-to-init c =
@@ -107,11 +107,11 @@ loop-to-preserved-in-Stay c =
     _ (sym (ap (changed c.loop-to.table) c.in-Stay.is)) c.loop-to.invariant.trains (search rules) c.line_end-to-in-loop-to.ensures
 
 pub bounds-table-i-in-Put : goal.bounds-table-i-in-Put
-bounds-table-i-in-Put c = change_fits c.loop-to.invariant.trains c.decide_read-d.ensures c.in-Put.is
+bounds-table-i-in-Put c = change_fits c.loop-to.opened c.loop-to.table _ c.loop-to.invariant.trains c.decide_read-d.ensures c.in-Put.is
 
 pub offset_bounds-table-i-in-Put : goal.offset_bounds-table-i-in-Put
 offset_bounds-table-i-in-Put c =
-    let below : c.in-Put.i < places = change_fits c.loop-to.invariant.trains c.decide_read-d.ensures c.in-Put.is in
+    let below : c.in-Put.i < places = change_fits c.loop-to.opened c.loop-to.table _ c.loop-to.invariant.trains c.decide_read-d.ensures c.in-Put.is in
     omega arith
 
 pub loop-to-preserved-in-Put : goal.loop-to-preserved-in-Put
@@ -120,16 +120,16 @@ loop-to-preserved-in-Put c =
     _ (sym (ap (changed c.loop-to.table) c.in-Put.is)) (simp length-set c.loop-to.invariant.trains) (search rules) c.line_end-to-in-loop-to.ensures
 
 pub bounds-table-trains : goal.bounds-table-trains
-bounds-table-trains c = change_fits c.loop-to.invariant.trains c.decide_read-d.ensures c.in-Add.is
+bounds-table-trains c = change_fits c.loop-to.opened c.loop-to.table _ c.loop-to.invariant.trains c.decide_read-d.ensures c.in-Add.is
 
 pub offset_bounds-table-trains : goal.offset_bounds-table-trains
 offset_bounds-table-trains c =
-    let spare : c.loop-to.table.count < places = change_fits c.loop-to.invariant.trains c.decide_read-d.ensures c.in-Add.is in
+    let spare : c.loop-to.table.count < places = change_fits c.loop-to.opened c.loop-to.table _ c.loop-to.invariant.trains c.decide_read-d.ensures c.in-Add.is in
     omega arith
 
 pub overflow_add-table : goal.overflow_add-table
 overflow_add-table c =
-    let spare : c.loop-to.table.count < places = change_fits c.loop-to.invariant.trains c.decide_read-d.ensures c.in-Add.is in
+    let spare : c.loop-to.table.count < places = change_fits c.loop-to.opened c.loop-to.table _ c.loop-to.invariant.trains c.decide_read-d.ensures c.in-Add.is in
     omega arith
 
 pub loop-to-preserved-in-Add : goal.loop-to-preserved-in-Add
@@ -139,11 +139,11 @@ loop-to-preserved-in-Add c =
 
 -- the first train is gone: there is one
 pub last_place-last-requires : goal.last_place-last-requires
-last_place-last-requires c = change_fits c.loop-to.invariant.trains c.decide_read-d.ensures c.in-DropFirst.is
+last_place-last-requires c = change_fits c.loop-to.opened c.loop-to.table _ c.loop-to.invariant.trains c.decide_read-d.ensures c.in-DropFirst.is
 
 pub overflow_sub-table : goal.overflow_sub-table
 overflow_sub-table c =
-    let some_train : 0 < c.loop-to.table.count = change_fits c.loop-to.invariant.trains c.decide_read-d.ensures c.in-DropFirst.is in
+    let some_train : 0 < c.loop-to.table.count = change_fits c.loop-to.opened c.loop-to.table _ c.loop-to.invariant.trains c.decide_read-d.ensures c.in-DropFirst.is in
     omega arith
 
 pub loop-up-init : goal.loop-up-init
@@ -159,7 +159,7 @@ loop-to-preserved-in-DropFirst c =
     let t = c.loop-to.table in
     let end : c.loop-up.up ≡ c.last_place-last.result = omega (arith, c.loop-up-test.false, c.loop-up.invariant.0) in
     let last_there : c.last_place-last.result < places = omega (arith, c.last_place-last.ensures) in
-    let some_train : 0 < t.count = change_fits c.loop-to.invariant.trains c.decide_read-d.ensures c.in-DropFirst.is in
+    let some_train : 0 < t.count = change_fits c.loop-to.opened c.loop-to.table _ c.loop-to.invariant.trains c.decide_read-d.ensures c.in-DropFirst.is in
     let made = moved_all t c.loop-to.invariant.trains c.loop-up.table c.loop-up.up c.last_place-last.result c.blank_train.result some_train end c.last_place-last.ensures c.loop-up.invariant.1 c.blank_train.ensures in
     line_answered c.requires c.loop-to.invariant c.loop-to-test.true c.read_on-q.ensures c.decide_read-d.ensures c.put_answer-opened.ensures.0 c.put_answer-opened.ensures.1
     _ (made ∙ sym (ap (changed t) c.in-DropFirst.is))
