@@ -1,10 +1,10 @@
 -- Document 01, "Authorities" and "What is turned down", and document 02, (vi), said a second time of one train: in numbers and in the fields
 -- of its record, where the definitions test and choose. A wrong definition is refused here, whatever the code.
 -- Assumes nothing.
+use Rattle.std.specs.Prelude.{None}
 use Prim.Native.Nat.{ℕ, ◌+◌, ◌≤◌, ◌<◌}
 use mathlib.Core.Bool.{true, false, ◌&&◌}
 use mathlib.Core.Logic.{◌⊎◌, inl, inr, ◌↔◌}
-use mathlib.Core.Option.{none}
 use mathlib.Core.Path.{◌≡◌, refl, sym, subst, ◌∙◌}
 use native.Mathlib.Omega.{arith}
 use lib.Dec.{leb, ltb, eqb}
@@ -134,7 +134,7 @@ module _ (σ : Settings) (limit : Limit) (x : Train) (q : Extension) where
     pub number : (extended x q).authority.number ≡ q.number
     pub length : (extended x q).authority.length ≡ q.length
 
-  pub extension_accepted : first_of (decide σ limit x (Extend q)).checks ≡ none → Accepts
+  pub extension_accepted : first_of (decide σ limit x (Extend q)).checks ≡ None → Accepts
   unfolding is_old is_repeat extended
   extension_accepted e =
       let range = passed _ _ _ e in

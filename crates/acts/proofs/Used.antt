@@ -1,10 +1,10 @@
 -- Numbers that were used: what an extension with one may come to, and that the last accepted one never goes back. It rests on the laws of each
 -- refusal (Sentences), and stands apart from them, so that a wrong definition is refused there.
 -- Assumes nothing.
+use Rattle.std.specs.Prelude.{None}
 use Prim.Native.Nat.{◌≤◌, ◌<◌}
 use mathlib.Core.Bool.{true}
 use mathlib.Core.Logic.{by_cases, ◌⊎◌, inl, inr}
-use mathlib.Core.Option.{none}
 use mathlib.Core.Path.{◌≡◌, subst}
 use native.Mathlib.Decide.{ℕ_discrete, dec_lt}
 use native.Mathlib.Omega.{arith}
@@ -42,7 +42,7 @@ extension_used σ limit x q above used =
     (λ e. inl (BadRequest, extension_10 σ limit x q (λ a. not_both (ranged σ q a) e)))
 
 -- the last accepted number never goes back
-pub number_onward : (σ : Settings) (limit : Limit) (x : Train) (a : Act) → first_of (decide σ limit x a).checks ≡ none
+pub number_onward : (σ : Settings) (limit : Limit) (x : Train) (a : Act) → first_of (decide σ limit x a).checks ≡ None
     → x.authority.number ≤ (decide σ limit x a).after.authority.number
 number_onward σ limit x a passes = go (act_leaves σ limit x a).numbers
   where
@@ -52,6 +52,6 @@ number_onward σ limit x a passes = go (act_leaves σ limit x a).numbers
     go : ((q : Extension) × (a ≡ Extend q) × (y ≡ extended x q)) ⊎ ((y.authority.number ≡ x.authority.number) × (y.authority.length ≡ x.authority.length))
         → x.authority.number ≤ y.authority.number
     go (inl (q, e, longer)) =
-        let p = extension_accepted σ limit x q (subst (λ (b : Act). first_of (decide σ limit x b).checks ≡ none) e passes) in
+        let p = extension_accepted σ limit x q (subst (λ (b : Act). first_of (decide σ limit x b).checks ≡ None) e passes) in
         rw (longer, p.number) p.onward
     go (inr (number, length)) = omega arith

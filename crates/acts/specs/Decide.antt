@@ -1,6 +1,5 @@
 -- Document 01, "Authorities" and "What is turned down", and document 02, (vi): what each act of a train on the line comes to.
-use Rattle.std.specs.Prelude.{ℕ, ◌+◌, Bool, true, false, not, ◌&&◌, List, [], ◌∷◌, eqb}
-use Rattle.std.proofs.Math.Option.{Option, none, some}
+use Rattle.std.specs.Prelude.{ℕ, ◌+◌, Bool, true, false, not, ◌&&◌, List, [], ◌∷◌, eqb, Option, None, Some}
 use Rattle.calls.specs.declared.Reading.{Reading}
 use Rattle.calls.specs.declared.Extension.{Extension}
 use Rattle.calls.specs.declared.Act.{Act}
@@ -66,8 +65,8 @@ decide σ limit x Lift = marking x false
 -- ---- words of inner contracts
 
 abbrev pub verdict_by : Option Refusal → Ruling → Verdict
-verdict_by none d = Passed d.gives d.after
-verdict_by (some r) d = TurnedDown r
+verdict_by None d = Passed d.gives d.after
+verdict_by (Some r) d = TurnedDown r
 
 -- a ruling, judged: the first check that applies turns the act down
 abbrev pub verdict : Ruling → Verdict

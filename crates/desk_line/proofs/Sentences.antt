@@ -1,9 +1,9 @@
 -- The desk beside the session, line by line: on a line that the session reads it answers as the session does, and its state is the session's. What
 -- previews leave and show is said by code and in the columns of the output.
 -- Assumes nothing.
+use Rattle.std.specs.Prelude.{Option, None, Some}
 use Prim.Native.Nat.{ℕ, ◌+◌, ◌-◌, ◌≤◌}
 use mathlib.Core.Bool.{Bool, true, false, cond}
-use mathlib.Core.Option.{Option, none, some}
 use mathlib.Core.List.{List, [], ◌∷◌, ◌++◌, append_assoc, append-nil}
 use mathlib.Core.Path.{◌≡◌, refl, ap, ◌∙◌}
 use native.Mathlib.Omega.{arith}
@@ -61,11 +61,11 @@ unfolding line_read desk_read
 session_read l r = go (row_in l)
   where
     go : (o : Option (List ℕ)) → request_by o ≡ Read r → desk_ask_by o ≡ Made r
-    go none e = let z : ◌≡◌ {A = ℕ} 0 1 = cc in absurd (omega arith)
-    go (some row) e = row_made row r e
+    go None e = let z : ◌≡◌ {A = ℕ} 0 1 = cc in absurd (omega arith)
+    go (Some row) e = row_made row r e
 
 -- code 50 + c previews call c
-pub preview_read : (l row : List ℕ) (c : ℕ) (r : Request) → row_in l ≡ some row → at row 0 ≡ 50 + c → request_of (set row 0 c) ≡ Read r → desk_read l ≡ Tried r
+pub preview_read : (l row : List ℕ) (c : ℕ) (r : Request) → row_in l ≡ Some row → at row 0 ≡ 50 + c → request_of (set row 0 c) ≡ Read r → desk_read l ≡ Tried r
 unfolding desk_read desk_ask
 preview_read l row c r has code reads =
     let above : at row 0 - 50 ≡ c = omega arith in
@@ -120,8 +120,8 @@ same_state s l = go (row_in l)
     row_asks row Unreadable e = not_made row s e ∙ stays
 
     go : (o : Option (List ℕ)) → left_at s (desk_ask_by o) ≡ (replied s (line_decision s (request_by o))).session
-    go none = stays
-    go (some row) = row_asks row (request_of row) refl
+    go None = stays
+    go (Some row) = row_asks row (request_of row) refl
 
 pub same_states : (ls : List (List ℕ)) (s : Session) → desk_after s ls ≡ after s ls
 unfolding desk_after after

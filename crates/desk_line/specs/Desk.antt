@@ -1,6 +1,5 @@
 -- A line at the desk: what it asks, what is shown of it, and the state after it. Its columns are those of a line of the session.
-use Rattle.std.specs.Prelude.{ℕ, ◌-◌, not, cond, ◌&&◌, List, [], ◌∷◌, leb, set}
-use Rattle.std.proofs.Math.Option.{Option, none, some}
+use Rattle.std.specs.Prelude.{ℕ, ◌-◌, not, cond, ◌&&◌, List, [], ◌∷◌, leb, set, Option, None, Some}
 use Rattle.calls.specs.declared.RequestRead.{RequestRead}
 use Rattle.calls.specs.declared.RequestRead.TheVariants.{Read, Unreadable}
 use Rattle.calls.specs.declared.Refusal.TheVariants.{BadLine, OutOfTurn}
@@ -34,8 +33,8 @@ unfoldable pub desk_ask : List ℕ → DeskRead
 desk_ask row = cond (leb 50 (at row 0)) (as_tried (desk_call (set row 0 (at row 0 - 50)))) (as_made (desk_call row))
 
 abbrev pub desk_ask_by : Option (List ℕ) → DeskRead
-desk_ask_by none = Nothing
-desk_ask_by (some row) = desk_ask row
+desk_ask_by None = Nothing
+desk_ask_by (Some row) = desk_ask row
 
 -- a line without its line feed
 unfoldable pub desk_read : List ℕ → DeskRead

@@ -1,9 +1,9 @@
 -- Document 02, (v), in its words, on every table, for every caller and call: what a preview answers, and which record it shows.
 -- Assumes nothing.
+use Rattle.std.specs.Prelude.{Some}
 use Prim.Native.Nat.{ℕ}
 use mathlib.Core.Bool.{true, false}
 use mathlib.Core.Logic.{inl, inr}
-use mathlib.Core.Option.{some}
 use mathlib.Core.Path.{◌≡◌, refl, sym, ap, subst, ◌∙◌}
 use native.Mathlib.Omega.{arith}
 use lib.ListN.{length}
@@ -101,7 +101,7 @@ module _ (t : Table) (size : length t.trains ≡ 32) where
         so = last;
       }
 
-  acted : (id i : ℕ) (a : Act) → place_of t id ≡ some i → Holds (λ (x : Train). x ≡ (ruling_at t a i).after) id (changed t (Put i (ruling_at t a i).after))
+  acted : (id i : ℕ) (a : Act) → place_of t id ≡ Some i → Holds (λ (x : Train). x ≡ (ruling_at t a i).after) id (changed t (Put i (ruling_at t a i).after))
   acted id i a f =
       let y = (ruling_at t a i).after in
       record {

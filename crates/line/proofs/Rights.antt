@@ -1,8 +1,8 @@
 -- Document 02, (iii), in its words: what a caller without the right learns, and that no right is lost.
 -- Assumes nothing.
+use Rattle.std.specs.Prelude.{Option, None, Some}
 use Prim.Native.Nat.{ℕ}
 use mathlib.Core.Bool.{Bool, true, false, not}
-use mathlib.Core.Option.{Option, none, some}
 use mathlib.Core.List.{List}
 use mathlib.Core.Path.{◌≡◌, refl, sym, ap, ◌∙◌}
 use native.Mathlib.Omega.{arith}
@@ -87,8 +87,8 @@ judged_16 : (cs : List Check) (v : Values) (c : Change) → each not16 cs ≡ tr
 judged_16 cs v c others = go (first_of cs) refl
   where
     go : (o : Option Refusal) → first_of cs ≡ o → (numbers_of (judged o v c).answer).number ≡ 16 → ⊥
-    go none e = λ is. let accepts = accepted_0 v in omega arith
-    go (some r) e = λ is. not_both (eq-eqb (refusal_number r) 16 is) (not-true _ (refused_by not16 cs others r e))
+    go None e = λ is. let accepts = accepted_0 v in omega arith
+    go (Some r) e = λ is. not_both (eq-eqb (refusal_number r) 16 is) (not-true _ (refused_by not16 cs others r e))
 
 act_16 : (t : Table) (i : ℕ) (a : Act) → each not16 (ruling_at t a i).checks ≡ true
 act_16 t i (Report r) = refl
@@ -108,13 +108,13 @@ ask_16 t (OnTable (Enter e)) = go (figures_for t.settings e)
 ask_16 t (OnTable (Own id a)) = go (place_of t id)
   where
     go : (f : Option ℕ) → (numbers_of (named f (act_decision t a)).answer).number ≡ 16 → ⊥
-    go none = λ is. omega arith
-    go (some i) = judged_16 _ _ _ (act_16 t i a)
+    go None = λ is. omega arith
+    go (Some i) = judged_16 _ _ _ (act_16 t i a)
 ask_16 t (OnTable (TakeOff id)) = go (place_of t id)
   where
     go : (f : Option ℕ) → (numbers_of (named f (take_off_decision t)).answer).number ≡ 16 → ⊥
-    go none = λ is. omega arith
-    go (some i) = judged_16 _ _ _ refl
+    go None = λ is. omega arith
+    go (Some i) = judged_16 _ _ _ refl
 
 -- a caller with the right is never answered 16
 pub never_16 : (opened : Bool) (t : Table) (r : Request) → Right r.caller r.ask → (numbers_of (decided opened t r).answer).number ≡ 16 → ⊥

@@ -1,10 +1,10 @@
 -- What document 01 says of the calls, in its words: which are taken, exactly, and what each leaves. In numbers and in the fields of records.
 -- `step` and `open_decision` are what a call comes to by a caller with the right (Rights: call_rightful, open_rightful).
 -- Assumes nothing.
+use Rattle.std.specs.Prelude.{None, Some}
 use Prim.Native.Nat.{ℕ, ◌*◌, ◌≤◌, ◌<◌}
 use mathlib.Core.Bool.{Bool, true, false, ◌&&◌}
 use mathlib.Core.Logic.{by_cases, ◌⊎◌, inl, inr}
-use mathlib.Core.Option.{none, some}
 use mathlib.Core.Path.{◌≡◌, refl, ap, ◌∙◌}
 use native.Mathlib.Decide.{dec_le}
 use native.Mathlib.Omega.{arith}
@@ -175,10 +175,10 @@ module _ (t : Table) (e : Entry) where
         go (Given k) f = entered d (enter_fit t e k f ∙ q k)
 
     -- 5 "id on the line already"
-    pub enter_5 : (i : ℕ) → place_of t e.id ≡ some i → step t (Enter e) ≡ outcome (Refused OnLine) t
+    pub enter_5 : (i : ℕ) → place_of t e.id ≡ Some i → step t (Enter e) ≡ outcome (Refused OnLine) t
     enter_5 i known = whatever_figures _ (λ k. enter_known t e k ranged i known)
 
-    module _ (absent : place_of t e.id ≡ none) where
+    module _ (absent : place_of t e.id ≡ None) where
       -- 6 "32 trains on the line"
       pub enter_6 : 32 ≤ t.count → step t (Enter e) ≡ outcome (Refused LineFull) t
       enter_6 full = whatever_figures _ (λ k. enter_full t e k ranged absent full)
@@ -215,15 +215,15 @@ module _ (t : Table) (e : Entry) where
 -- ---- a call that names a train
 
 -- 8 "no such train"
-pub own_8 : (t : Table) (id : ℕ) (a : Act) → place_of t id ≡ none → step t (Own id a) ≡ outcome (Refused NoTrain) t
+pub own_8 : (t : Table) (id : ℕ) (a : Act) → place_of t id ≡ None → step t (Own id a) ≡ outcome (Refused NoTrain) t
 unfolding step
 own_8 t id a none_found = ap (carried_out t) (own_unknown t id a none_found)
 
-pub take_off_8 : (t : Table) (id : ℕ) → place_of t id ≡ none → step t (TakeOff id) ≡ outcome (Refused NoTrain) t
+pub take_off_8 : (t : Table) (id : ℕ) → place_of t id ≡ None → step t (TakeOff id) ≡ outcome (Refused NoTrain) t
 unfolding step
 take_off_8 t id none_found = ap (carried_out t) (take_off_unknown t id none_found)
 
-module _ (t : Table) (id i : ℕ) (found : place_of t id ≡ some i) where
+module _ (t : Table) (id i : ℕ) (found : place_of t id ≡ Some i) where
   at_place : FoundAt t (place_of t id) i (limit_at t i) (train_at t i)
   at_place = record { place = found; limited = refl; here = refl }
 

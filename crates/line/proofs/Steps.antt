@@ -1,9 +1,9 @@
 -- Laws of one call: any call at once, and what each of its checks leads to. Whoever cites these opens neither `decide_on` nor the lists of
 -- checks.
 -- Assumes nothing.
+use Rattle.std.specs.Prelude.{Option, None, Some}
 use Prim.Native.Nat.{ℕ, ◌≤◌, ◌<◌}
 use mathlib.Core.Bool.{Bool, true, false, not, ◌&&◌}
-use mathlib.Core.Option.{Option, none, some}
 use mathlib.Core.List.{[], ◌∷◌}
 use mathlib.Core.Path.{◌≡◌, refl, sym, ap, ◌∙◌}
 use native.Mathlib.Omega.{arith}
@@ -59,25 +59,25 @@ step t c = carried_out t (decide_on t (OnTable c))
 -- ---- any call: refused, or accepted with all checks passed
 
 -- accepted: no check applies
-judged_any : (o : Option Refusal) (v : Values) (c : Change) (P : Decision → Type 0) → ((r : Refusal) → P (refused r)) → (o ≡ none → P (accepted v c))
+judged_any : (o : Option Refusal) (v : Values) (c : Change) (P : Decision → Type 0) → ((r : Refusal) → P (refused r)) → (o ≡ None → P (accepted v c))
     → P (judged o v c)
-judged_any none v c P refuses accepts = accepts refl
-judged_any (some r) v c P refuses accepts = refuses r
+judged_any None v c P refuses accepts = accepts refl
+judged_any (Some r) v c P refuses accepts = refuses r
 
-named_any : (f : Option ℕ) (d : ℕ → Decision) (P : Decision → Type 0) → ((r : Refusal) → P (refused r)) → ((i : ℕ) → f ≡ some i → P (d i)) → P (named f d)
-named_any none d P refuses accepts = refuses NoTrain
-named_any (some i) d P refuses accepts = accepts i refl
+named_any : (f : Option ℕ) (d : ℕ → Decision) (P : Decision → Type 0) → ((r : Refusal) → P (refused r)) → ((i : ℕ) → f ≡ Some i → P (d i)) → P (named f d)
+named_any None d P refuses accepts = refuses NoTrain
+named_any (Some i) d P refuses accepts = accepts i refl
 
 -- a train that may enter, with figures k: its id is not on the line, there is a free place, its rear is on the line and its head within the limit
 pub record Admitted (t : Table) (e : Entry) (k : Figures) : Type 0 where
   pub figures : figures_for t.settings e ≡ Given k
-  pub absent : place_of t e.id ≡ none
+  pub absent : place_of t e.id ≡ None
   pub room : t.count < places
   pub long : steps_of e.length ≤ e.head
   pub near : InLimit (limit_at t t.count) e.head
 
 -- an accepted entering has passed its checks
-admitted : (t : Table) (e : Entry) (k : Figures) → figures_for t.settings e ≡ Given k → first_of (enter_checks t e k) ≡ none → Admitted t e k
+admitted : (t : Table) (e : Entry) (k : Figures) → figures_for t.settings e ≡ Given k → first_of (enter_checks t e k) ≡ None → Admitted t e k
 admitted t e k given passes =
     let known = passed _ _ _ (passed _ _ _ passes).1 in
     let full = passed _ _ _ known.1 in
@@ -94,9 +94,9 @@ admitted t e k given passes =
 pub record Any (t : Table) (P : Call → Decision → Type 0) : Type 0 where
   pub refuses : (c : Call) (r : Refusal) → P c (refused r)
   pub enters : (e : Entry) (k : Figures) → Admitted t e k → P (Enter e) (accepted (Entered k.full k.growth e.head) (Add (entering e k)))
-  pub acts : (id i : ℕ) (a : Act) → place_of t id ≡ some i → first_of (ruling_at t a i).checks ≡ none
+  pub acts : (id i : ℕ) (a : Act) → place_of t id ≡ Some i → first_of (ruling_at t a i).checks ≡ None
       → P (Own id a) (accepted (ruling_at t a i).gives (Put i (ruling_at t a i).after))
-  pub leaves : (id i : ℕ) → place_of t id ≡ some i → may_leave i (train_at t i) ≡ true → P (TakeOff id) (accepted Zeros DropFirst)
+  pub leaves : (id i : ℕ) → place_of t id ≡ Some i → may_leave i (train_at t i) ≡ true → P (TakeOff id) (accepted Zeros DropFirst)
 
 pub any_call : (t : Table) (P : Call → Decision → Type 0) → Any t P → (c : Call) → P c (decide_on t (OnTable c))
 unfolding decide_on enter_decision act_decision take_off_decision
@@ -191,11 +191,11 @@ module _ (t : Table) (e : Entry) where
 
   module _ (k : Figures) where
     module _ (a : (id_in_range e.id && start_in_range e.start) ≡ true) where
-      pub enter_known : (i : ℕ) → place_of t e.id ≡ some i → enter_decision t e (Given k) ≡ refused OnLine
+      pub enter_known : (i : ℕ) → place_of t e.id ≡ Some i → enter_decision t e (Given k) ≡ refused OnLine
       unfolding enter_decision first_of
       enter_known i b = rw (a, b, enter_decision)
 
-      module _ (b : place_of t e.id ≡ none) where
+      module _ (b : place_of t e.id ≡ None) where
         pub enter_full : places ≤ t.count → enter_decision t e (Given k) ≡ refused LineFull
         unfolding enter_decision first_of
         enter_full c = rw (a, b, le-leb places t.count c, enter_decision)
@@ -216,11 +216,11 @@ module _ (t : Table) (e : Entry) where
 
 -- ---- no such train
 
-pub own_unknown : (t : Table) (id : ℕ) (a : Act) → place_of t id ≡ none → decide_on t (OnTable (Own id a)) ≡ refused NoTrain
+pub own_unknown : (t : Table) (id : ℕ) (a : Act) → place_of t id ≡ None → decide_on t (OnTable (Own id a)) ≡ refused NoTrain
 unfolding decide_on
 own_unknown t id a e = ap (λ (o : Option ℕ). named o (act_decision t a)) e
 
-pub take_off_unknown : (t : Table) (id : ℕ) → place_of t id ≡ none → decide_on t (OnTable (TakeOff id)) ≡ refused NoTrain
+pub take_off_unknown : (t : Table) (id : ℕ) → place_of t id ≡ None → decide_on t (OnTable (TakeOff id)) ≡ refused NoTrain
 unfolding decide_on
 take_off_unknown t id e = ap (λ (o : Option ℕ). named o (take_off_decision t)) e
 
@@ -232,8 +232,8 @@ placed i (TurnedDown r) = refused r
 placed i (Passed v y) = accepted v (Put i y)
 
 placed_judged : (i : ℕ) (o : Option Refusal) (d : Ruling) → judged o d.gives (Put i d.after) ≡ placed i (verdict_by o d)
-placed_judged i none d = refl
-placed_judged i (some r) d = refl
+placed_judged i None d = refl
+placed_judged i (Some r) d = refl
 
 module _ (t : Table) (id i : ℕ) (limit : Limit) (x : Train) (f : FoundAt t (place_of t id) i limit x) where
   pub own_found : (a : Act) → decide_on t (OnTable (Own id a)) ≡ placed i (verdict (decide t.settings limit x a))

@@ -1,8 +1,6 @@
 -- Document 01, "Authorities" and "What is turned down", and document 02, (iii): a request on a table is decided. The decision is the
 -- answer and what changes in the table, for every table and every number.
-use Rattle.std.specs.Prelude.{ℕ, Bool, cond, not, ◌&&◌, List, [], ◌∷◌, leb}
-use Rattle.std.proofs.Math.Option.{Option, none, some}
-use Rattle.logic.specs.Options.{is_some}
+use Rattle.std.specs.Prelude.{ℕ, Bool, cond, not, ◌&&◌, List, [], ◌∷◌, leb, Option, None, Some, is_some}
 use Rattle.ranges.specs.Ranges.{id_in_range, start_in_range}
 use Rattle.brake.specs.declared.Figures.{Figures}
 use Rattle.brake.specs.declared.FiguresFound.{FiguresFound}
@@ -41,8 +39,8 @@ accepted v c = record { answer = Accepted v; change = c }
 
 -- the first check that applies is the answer; where none does, the call is accepted
 abbrev pub judged : Option Refusal → Values → Change → Decision
-judged none v c = accepted v c
-judged (some r) v c = refused r
+judged None v c = accepted v c
+judged (Some r) v c = refused r
 
 -- Open: 3, and a new table with no train
 unfoldable pub open_decision : Opening → Decision
@@ -75,8 +73,8 @@ take_off_decision t i = judged (first_of (check (not (may_leave i (train_at t i)
 
 -- a call that names a train: 8, or what is decided of the train at its place
 abbrev pub named : Option ℕ → (ℕ → Decision) → Decision
-named none d = refused NoTrain
-named (some i) d = d i
+named None d = refused NoTrain
+named (Some i) d = d i
 
 -- what is asked of a table
 unfoldable pub decide_on : Table → Ask → Decision

@@ -1,8 +1,8 @@
 -- Every deed, refused or not, keeps the invariant of a table under its history; so every list of deeds does.
 -- Assumes nothing.
+use Rattle.std.specs.Prelude.{None, Some}
 use Prim.Native.Nat.{ℕ}
 use mathlib.Core.Bool.{true}
-use mathlib.Core.Option.{none, some}
 use mathlib.Core.List.{List, [], ◌∷◌, map, foldl, map-append}
 use mathlib.Core.Path.{◌≡◌, refl, sym, ◌∙◌, subst}
 use native.Mathlib.Nat.{le_refl}
@@ -91,7 +91,7 @@ module _ (o : Opening) (l : Line) (t : Table) (A : Agrees o l t) where
 
   -- ---- an act
 
-  next_act : (id i : ℕ) (a : Act) → place_of t id ≡ some i → first_of (ruling_at t a i).checks ≡ none
+  next_act : (id i : ℕ) (a : Act) → place_of t id ≡ Some i → first_of (ruling_at t a i).checks ≡ None
       → Does (Own id a) (accepted (ruling_at t a i).gives (Put i (ruling_at t a i).after))
   unfolding told_call
   next_act id i a f e r asks =
@@ -123,7 +123,7 @@ module _ (o : Opening) (l : Line) (t : Table) (A : Agrees o l t) where
 
   -- ---- a taking off
 
-  next_off : (id i : ℕ) → place_of t id ≡ some i → may_leave i (train_at t i) ≡ true → Does (TakeOff id) (accepted Zeros DropFirst)
+  next_off : (id i : ℕ) → place_of t id ≡ Some i → may_leave i (train_at t i) ≡ true → Does (TakeOff id) (accepted Zeros DropFirst)
   unfolding told_call
   next_off id i f may r asks =
       let place = subst (IsAt id xs) (first_leaves i (train_at t i) may) (agrees_place o l t A id i f) in

@@ -3,11 +3,11 @@
 -- motion/proofs/Sentences and OrderSentences, of figures in brake/proofs/Sentences. Entering and taking off, which ask no list, are in line/proofs/Rules.
 -- `step` is what a call comes to by a caller with the right (line/proofs/Rights: call_rightful).
 -- Assumes nothing.
+use Rattle.std.specs.Prelude.{Some}
 use Prim.Native.Nat.{ℕ, suc, ◌+◌, ◌*◌, ◌≤◌, ◌<◌}
 use mathlib.Core.Bool.{Bool, true, false}
 use mathlib.Core.List.{List, ◌∷◌, ◌++◌}
 use mathlib.Core.Logic.{by_cases, ◌⊎◌, inl, inr, ◌↔◌}
-use mathlib.Core.Option.{some}
 use mathlib.Core.Path.{◌≡◌, refl, sym, ap, ◌∙◌}
 use native.Mathlib.Decide.{dec_lt}
 use native.Mathlib.Omega.{arith}
@@ -77,7 +77,7 @@ module _ (o : Opening) (t : Table) (opened : open_step o ≡ outcome (Accepted Z
 
   -- ---- a train on the line
 
-  module _ (id i : ℕ) (found : place_of now id ≡ some i) where
+  module _ (id i : ℕ) (found : place_of now id ≡ Some i) where
     abbrev x : Train
     x = train_at now i
 
@@ -166,12 +166,12 @@ module _ (o : Opening) (t : Table) (opened : open_step o ≡ outcome (Accepted Z
           exactly : (x.marks.held ≡ true) ⊎ (Marked ⊎ NoneWouldDo) → given ≡ Brake
           exactly (inl held) = held_order now.settings x m held
           exactly (inr (inl marked)) = penalty_repeated marked
-          exactly (inr (inr none)) = go which
+          exactly (inr (inr None)) = go which
             where
               go : (x.marks.held ≡ true) ⊎ (Marked ⊎ ((x.marks.held ≡ false) × Unmarked)) → given ≡ Brake
               go (inl held) = held_order now.settings x m held
               go (inr (inl marked)) = penalty_repeated marked
-              go (inr (inr (free, unmarked))) = (free_brakes now.settings x m free unmarked sound).1 none
+              go (inr (inr (free, unmarked))) = (free_brakes now.settings x m free unmarked sound).1 None
 
       -- "A standing train at its end gets drive with cap 0."
       pub standing_drives : x.marks.held ≡ false → r.speed ≡ 0 → x.authority.goal ≡ r.head → given ≡ Drive 0

@@ -1,7 +1,7 @@
 -- The invariant of the trains on a line, and what accepted calls make of it: an act, an entering and a taking off.
 -- Assumes nothing.
+use Rattle.std.specs.Prelude.{None, Some}
 use Prim.Native.Nat.{ℕ, zero, suc, ◌≤◌, ◌<◌}
-use mathlib.Core.Option.{none, some}
 use mathlib.Core.List.{List, [], ◌∷◌, ◌++◌, map}
 use mathlib.Core.Path.{◌≡◌, refl, sym, ap, subst}
 use native.Mathlib.Omega.{arith}
@@ -29,10 +29,10 @@ use Rattle.safety.proofs.Finding.{Absent, IsAt}
 
 -- the limits of the first train and of the one behind x
 abbrev pub first_limit : Settings → Limit
-first_limit σ = limit_behind σ none
+first_limit σ = limit_behind σ None
 
 abbrev pub behind : Settings → Told → Limit
-behind σ x = limit_behind σ (some (record_of x))
+behind σ x = limit_behind σ (Some (record_of x))
 
 -- all trains from one with this limit on; no two have one id
 abbrev pub Lined : Settings → Limit → List Told → Type 0
@@ -81,12 +81,12 @@ lined_wider σ a b wider (x ∷ xs) l =
 
 -- behind a train that has not gone back
 wider_head : (σ : Settings) (x y : Train) → y.length ≡ x.length → x.motion.head ≤ y.motion.head
-    → Wider (limit_behind σ (some x)) (limit_behind σ (some y))
+    → Wider (limit_behind σ (Some x)) (limit_behind σ (Some y))
 wider_head σ x y same h place limited = let steps = ap steps_of same in let sum = in_behind σ x place limited in behind_in σ y place (omega arith)
 
 -- the line end, where the train ahead was not beyond it
 pub wider_end : (σ : Settings) (limit : Limit) (x : Train) → Guarded σ limit x → x.authority.end ≤ σ.end
-    → Wider (limit_behind σ (some x)) (first_limit σ)
+    → Wider (limit_behind σ (Some x)) (first_limit σ)
 wider_end σ limit x g end place limited =
     let head = guarded_head σ limit x g in
     let sum = in_behind σ x place limited in
@@ -110,7 +110,7 @@ module _ (σ : Settings) (id : ℕ) (a : Act) where
 
   -- accepted, of the train x with this limit
   abbrev Passes : Limit → Train → Type 0
-  Passes limit x = first_of (decide σ limit x a).checks ≡ none
+  Passes limit x = first_of (decide σ limit x a).checks ≡ None
 
   abbrev answer_of : Limit → Train → Numbers
   answer_of limit x = numbers_of (Accepted (decide σ limit x a).gives)

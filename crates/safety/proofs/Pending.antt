@@ -1,11 +1,11 @@
 -- Document 02, (vi), over every list of deeds: what a pending call back leaves as it is, and when it ends. `step` is what a call comes to by a
 -- caller with the right; one without it leaves the table (line/proofs/Rights: call_16).
 -- Assumes nothing.
+use Rattle.std.specs.Prelude.{Option, None, Some}
 use Prim.Native.Nat.{ℕ, zero, suc, ◌+◌, ◌≤◌, ◌<◌}
 use mathlib.Core.Bool.{true}
 use mathlib.Core.List.{List, [], ◌∷◌, ◌++◌}
 use mathlib.Core.Logic.{by_cases, ◌⊎◌, inl, inr}
-use mathlib.Core.Option.{Option, none, some}
 use mathlib.Core.Path.{◌≡◌, refl, sym, ap, subst, ◌∙◌}
 use native.Mathlib.Decide.{ℕ_discrete, dec_le}
 use native.Mathlib.Nat.{le_refl}
@@ -78,7 +78,7 @@ module _ (o : Opening) (t : Table) (opened : open_step o ≡ outcome (Accepted Z
   abbrev now : Table
   now = after t ds
 
-  module _ (id i : ℕ) (found : place_of now id ≡ some i) where
+  module _ (id i : ℕ) (found : place_of now id ≡ Some i) where
     abbrev x : Train
     x = train_at now i
 
@@ -103,12 +103,12 @@ module _ (o : Opening) (t : Table) (opened : open_step o ≡ outcome (Accepted Z
     abbrev then : Act → Train
     then a = train_at (step now (Own id a)).table i
 
-    acted : (Q : Train → Type 0) (a : Act) → Q x → (first_of (decide now.settings limit x a).checks ≡ none → Q (decide now.settings limit x a).after) → Q (then a)
+    acted : (Q : Train → Type 0) (a : Act) → Q x → (first_of (decide now.settings limit x a).checks ≡ None → Q (decide now.settings limit x a).after) → Q (then a)
     acted Q a stays goes = go (first_of (decide now.settings limit x a).checks) refl
       where
         go : (f : Option Refusal) → first_of (decide now.settings limit x a).checks ≡ f → Q (then a)
-        go none e = rw (own_step now id i found a _ (ap (λ (f : Option Refusal). verdict_by f (decide now.settings limit x a)) e), still_there now id i (decide now.settings limit x a).after found) (goes e)
-        go (some r) e = rw (own_step now id i found a _ (ap (λ (f : Option Refusal). verdict_by f (decide now.settings limit x a)) e)) stays
+        go None e = rw (own_step now id i found a _ (ap (λ (f : Option Refusal). verdict_by f (decide now.settings limit x a)) e), still_there now id i (decide now.settings limit x a).after found) (goes e)
+        go (Some r) e = rw (own_step now id i found a _ (ap (λ (f : Option Refusal). verdict_by f (decide now.settings limit x a)) e)) stays
 
     -- no report and no call back moves the end forward
     pub report_not_forward : (r : Reading) → (then (Report r)).authority.end ≤ x.authority.end
@@ -138,7 +138,7 @@ module _ (o : Opening) (t : Table) (opened : open_step o ≡ outcome (Accepted Z
       reads : then (Report r) ≡ reported now.settings x r
       reads = ap (λ (u : Table). train_at u i) table_then ∙ still_there now id i (reported now.settings x r) found
 
-      found_then : place_of (step now (Own id (Report r))).table id ≡ some i
+      found_then : place_of (step now (Own id (Report r))).table id ≡ Some i
       unfolding reported
       found_then = ap (λ (u : Table). place_of u id) table_then ∙ still_found now i (reported now.settings x r) below refl id ∙ found
 
@@ -146,7 +146,7 @@ module _ (o : Opening) (t : Table) (opened : open_step o ≡ outcome (Accepted Z
       allows =
           let a = own_accepted now id (Report r) taken in
           let here : a.place ≡ i = cc a.found in
-          report_allowed_lem now.settings x r (passed _ _ _ (subst (λ (p : ℕ). first_of (ruling_at now (Report r) p).checks ≡ none) here a.passes)).0
+          report_allowed_lem now.settings x r (passed _ _ _ (subst (λ (p : ℕ). first_of (ruling_at now (Report r) p).checks ≡ None) here a.passes)).0
 
       -- pending after it: it was answered with brake, and the train moves
       pub pending_on : ((then (Report r)).authority.goal ≡ (then (Report r)).authority.end → ⊥)
@@ -296,7 +296,7 @@ module _ (o : Opening) (t : Table) (opened : open_step o ≡ outcome (Accepted Z
       → let now = after t before in
       let then = after now since in
       Waiting id now → Waits id now since → (n : ℕ) → Reports id n (history now since)
-      → (i p q : ℕ) → place_of then id ≡ some i → RoundedUp p (train_at then i).figures.full (train_at then i).figures.growth
+      → (i p q : ℕ) → place_of then id ≡ Some i → RoundedUp p (train_at then i).figures.full (train_at then i).figures.growth
       → RoundedUp q o.ceiling (train_at then i).figures.full → n < 1 + p + q
   unfolding stands
   pending_ends before since waiting waits n reports i p q there growing slowing =
@@ -316,7 +316,7 @@ module _ (o : Opening) (t : Table) (opened : open_step o ≡ outcome (Accepted Z
 
       sound : Sound x.figures
       sound =
-          subst (λ (u : Table). place_of u id ≡ some i → Sound (train_at u i).figures) (after_both t before since)
+          subst (λ (u : Table). place_of u id ≡ Some i → Sound (train_at u i).figures) (after_both t before since)
           (λ found. (track o t opened (before ++ since) i (found_below _ id i found)).guarded.figures) there
 
       go : (n : ℕ) → Braking o.ceiling n x → n < 1 + p + q

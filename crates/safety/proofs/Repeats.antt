@@ -1,11 +1,11 @@
 -- Repeats, over every list of deeds: "the repeat of an accepted one in the same stay adds none". `step` is what a call comes to by a caller with
 -- the right; one without it leaves the table too (line/proofs/Rights: call_16).
 -- Assumes nothing.
+use Rattle.std.specs.Prelude.{Some}
 use Prim.Native.Nat.{ℕ, ◌≤◌, ◌<◌}
 use mathlib.Core.Bool.{true}
 use mathlib.Core.List.{List, [], ◌∷◌}
 use mathlib.Core.Logic.{◌⊎◌, inl, inr}
-use mathlib.Core.Option.{some}
 use mathlib.Core.Path.{◌≡◌, refl, sym, ap, subst, ◌∙◌}
 use native.Mathlib.Omega.{arith}
 use borrow.Author.Tests.{eq-eqb}
@@ -230,7 +230,7 @@ module _ (o : Opening) (t : Table) (opened : open_step o ≡ outcome (Accepted Z
         }
 
     -- as the last accepted one, with its length, it is answered with the end of now and 1
-    pub last_repeated : NoOther id q.number (history granted since) → (i : ℕ) → place_of now id ≡ some i
+    pub last_repeated : NoOther id q.number (history granted since) → (i : ℕ) → place_of now id ≡ Some i
         → step now (Own id (Extend q)) ≡ outcome (Accepted (Extended (train_at now i).authority.end true)) now
     last_repeated other i found =
         let h = lasts (Last q) id since granted sized last_now (last_all id q (history granted since) stays other) in

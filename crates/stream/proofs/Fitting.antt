@@ -1,9 +1,9 @@
 -- Every answer of a session fits the columns of its output line, so that the line shows it whole. Assumes nothing.
+use Rattle.std.specs.Prelude.{None, Some}
 use Prim.Native.Nat.{ℕ, ◌≤◌}
 use mathlib.Core.Path.{◌≡◌, sym, subst}
 use mathlib.Core.Bool.{Bool, true, false}
 use mathlib.Core.Logic.{◌⊎◌, inl, inr}
-use mathlib.Core.Option.{none, some}
 use mathlib.Core.List.{List, [], ◌∷◌}
 use native.Mathlib.Nat.{le_refl, le_trans}
 use native.Mathlib.Omega.{arith}
@@ -101,7 +101,7 @@ module _ (o : Opening) (t : Table) (opened : open_step o ≡ outcome (Accepted Z
   within_shown i h (Extended e repeat) w = extended_shown e repeat (limit_fits i h e w)
   within_shown i h Zeros w = omega arith
 
-  act_shown : (id i : ℕ) (a : Act) → place_of left id ≡ some i → first_of (ruling_at left a i).checks ≡ none → Shown (Accepted (ruling_at left a i).gives)
+  act_shown : (id i : ℕ) (a : Act) → place_of left id ≡ Some i → first_of (ruling_at left a i).checks ≡ None → Shown (Accepted (ruling_at left a i).gives)
   act_shown id i a q e =
       let below = found_below left id i q in
       let p = tells o t opened ds i below in
@@ -148,5 +148,5 @@ pub answers_fit : (ls : List (List ℕ)) (l : List ℕ) → Fits answer_columns 
 answers_fit ls l = all_shown ls (session_safe ls) (line_read l)
 
 -- So an output line, read by its columns, gives the four numbers of the answer.
-pub answer_shown : (ls : List (List ℕ)) (l : List ℕ) → numbers_in answer_columns (answer_text (answer_after ls l)) ≡ some (shown_by (answer_after ls l))
+pub answer_shown : (ls : List (List ℕ)) (l : List ℕ) → numbers_in answer_columns (answer_text (answer_after ls l)) ≡ Some (shown_by (answer_after ls l))
 answer_shown ls l = answer_read (answer_after ls l) (answers_fit ls l)

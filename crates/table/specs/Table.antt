@@ -1,6 +1,5 @@
 -- The table of trains: 32 places, of which the first `count` hold the trains on the line, front train first.
-use Rattle.std.specs.Prelude.{ℕ, zero, suc, ◌+◌, ◌-◌, ◌<◌, cond, List, [], ◌∷◌, ◌++◌, eqb, get_or, set, take, drop, replicate}
-use Rattle.std.proofs.Math.Option.{Option, none, some}
+use Rattle.std.specs.Prelude.{ℕ, zero, suc, ◌+◌, ◌-◌, ◌<◌, cond, List, [], ◌∷◌, ◌++◌, eqb, get_or, set, take, drop, replicate, Option, None, Some}
 use Rattle.motion.specs.declared.Order.TheVariants.{Drive}
 use Rattle.train.specs.declared.Settings.{Settings}
 use Rattle.train.specs.declared.Train.{Train}
@@ -30,8 +29,8 @@ on_line t = take t.count t.trains
 
 -- the place of the train with this id, in a list whose first train is at place i
 unfoldable pub place_in : List Train → ℕ → ℕ → Option ℕ
-place_in [] id i = none
-place_in (x ∷ xs) id i = cond (eqb x.id id) (some i) (place_in xs id (suc i))
+place_in [] id i = None
+place_in (x ∷ xs) id i = cond (eqb x.id id) (Some i) (place_in xs id (suc i))
 
 unfoldable pub place_of : Table → ℕ → Option ℕ
 place_of t id = place_in (on_line t) id 0
@@ -41,8 +40,8 @@ train_at t i = get_or t.trains i blank_train
 
 -- the train ahead of place i
 unfoldable pub ahead_of : Table → ℕ → Option Train
-ahead_of t zero = none
-ahead_of t (suc i) = some (train_at t i)
+ahead_of t zero = None
+ahead_of t (suc i) = Some (train_at t i)
 
 -- the limit of the train at place i
 abbrev pub limit_at : Table → ℕ → Limit

@@ -1,8 +1,8 @@
 -- Laws of the limit.
 -- Assumes nothing.
+use Rattle.std.specs.Prelude.{None, Some}
 use Prim.Native.Nat.{ℕ, ◌+◌, ◌-◌, ◌≤◌, ◌<◌}
 use mathlib.Core.Bool.{true, false}
-use mathlib.Core.Option.{none, some}
 use mathlib.Core.Path.{◌≡◌, refl, subst}
 use native.Mathlib.Omega.{arith}
 use lib.Dec.{leb}
@@ -38,7 +38,7 @@ limit_below Nowhere h limited = limited
 
 -- ---- the first train
 
-pub limit_first : (σ : Settings) → limit_behind σ none ≡ Place σ.end
+pub limit_first : (σ : Settings) → limit_behind σ None ≡ Place σ.end
 unfolding limit_behind
 limit_first σ = refl
 
@@ -46,16 +46,16 @@ limit_first σ = refl
 
 module _ (σ : Settings) (a : Train) where
   -- no room for the safety distance behind the rear
-  pub limit_nowhere : a.motion.head < steps_of a.length + σ.safety → limit_behind σ (some a) ≡ Nowhere
+  pub limit_nowhere : a.motion.head < steps_of a.length + σ.safety → limit_behind σ (Some a) ≡ Nowhere
   unfolding limit_behind
   limit_nowhere h = rw (lt-leb (steps_of a.length + σ.safety) a.motion.head h, limit_behind)
 
-  pub limit_place : steps_of a.length + σ.safety ≤ a.motion.head → limit_behind σ (some a) ≡ Place (a.motion.head - steps_of a.length - σ.safety)
+  pub limit_place : steps_of a.length + σ.safety ≤ a.motion.head → limit_behind σ (Some a) ≡ Place (a.motion.head - steps_of a.length - σ.safety)
   unfolding limit_behind
   limit_place h = rw (le-leb (steps_of a.length + σ.safety) a.motion.head h, limit_behind)
 
   -- the limit as a sum: no difference in it
-  pub in_behind : (place : ℕ) → InLimit (limit_behind σ (some a)) place → place + σ.safety + steps_of a.length ≤ a.motion.head
+  pub in_behind : (place : ℕ) → InLimit (limit_behind σ (Some a)) place → place + σ.safety + steps_of a.length ≤ a.motion.head
   in_behind place limited =
       by_test (leb (steps_of a.length + σ.safety) a.motion.head)
       (λ e.
@@ -64,5 +64,5 @@ module _ (σ : Settings) (a : Train) where
       omega arith)
       (λ e. absurd (subst (λ (l : Limit). InLimit l place) (limit_nowhere (leb-false _ _ e)) limited))
 
-  pub behind_in : (place : ℕ) → place + σ.safety + steps_of a.length ≤ a.motion.head → InLimit (limit_behind σ (some a)) place
+  pub behind_in : (place : ℕ) → place + σ.safety + steps_of a.length ≤ a.motion.head → InLimit (limit_behind σ (Some a)) place
   behind_in place h = rw (limit_place (omega arith)) (omega arith)

@@ -2,7 +2,6 @@
 #![tactic(auto)]
 
 ghost use Rattle.std.specs.Prelude.{◌≡◌, true, ◌+◌, ◌^◌, ◌≤◌, ◌<◌};
-ghost use Rattle.std.proofs.Math.Option.{some};
 ghost use Rattle.ranges.specs.Ranges.{greatest_length};
 ghost use Rattle.motion.specs.Orders.{reach as reach_under};
 ghost use Rattle.motion_code.specs.Offers.{offer};
@@ -64,7 +63,7 @@ pub fn steps_of(length: u16) -> u64
 
 // The limit behind the train a. Each difference is tested first: no limit lies below 0.
 pub fn limit_behind(s: Settings, a: Train) -> Limit
-    ensures { result ≡ limit_behind s (some a) }
+    ensures { result ≡ limit_behind s (Some a) }
 {
     let safety = s.safety;
     let m = a.motion;
