@@ -32,6 +32,7 @@ fn accept(v: Values, c: Change) -> Decision
 }
 
 // Open: a new table with no train. A table already there is another one.
+#[tactic(auto, unfolding(line::specs::Decide::open_decision, calls::specs::Checks::first_of))]
 fn decide_open(o: Opening) -> Decision
     ensures { result ≡ open_decision o }
 {
@@ -42,6 +43,7 @@ fn decide_open(o: Opening) -> Decision
 }
 
 // Enter: behind the last train, standing.
+#[tactic(auto, using(brake::proofs::Consist::given_length), unfolding(line::specs::Decide::decide_on, line::specs::Decide::enter_decision, calls::specs::Checks::first_of))]
 fn decide_enter(t: &Table, e: Entry) -> Decision
     ensures { result ≡ decide_on t.now (Ask.OnTable (Call.Enter e)) }
 {
@@ -68,6 +70,7 @@ fn decide_enter(t: &Table, e: Entry) -> Decision
 }
 
 // An act of the train with this id.
+#[tactic(auto, unfolding(line::specs::Decide::decide_on, line::specs::Decide::act_decision, calls::specs::Checks::first_of))]
 fn decide_own(t: &Table, id: u64, a: Act) -> Decision
     ensures { result ≡ decide_on t.now (Ask.OnTable (Call.Own id a)) }
 {
@@ -81,6 +84,7 @@ fn decide_own(t: &Table, id: u64, a: Act) -> Decision
 }
 
 // Take off: the first train, standing under brake. The yard's word that its track is clear is taken.
+#[tactic(auto, unfolding(line::specs::Decide::decide_on, line::specs::Decide::take_off_decision, calls::specs::Checks::first_of))]
 fn decide_take_off(t: &Table, id: u64) -> Decision
     ensures { result ≡ decide_on t.now (Ask.OnTable (Call.TakeOff id)) }
 {
@@ -93,6 +97,7 @@ fn decide_take_off(t: &Table, id: u64) -> Decision
     accept(Values::Zeros, Change::DropFirst)
 }
 
+#[tactic(auto, unfolding(line::specs::Decide::decide_on))]
 fn decide_on(t: &Table, a: Ask) -> Decision
     ensures { result ≡ decide_on t.now a }
 {
@@ -115,6 +120,7 @@ fn out_of_turn(opened: bool, a: Ask) -> bool
 }
 
 // Any request, before an accepted opening or after one.
+#[tactic(auto, unfolding(line::specs::Decide::decided))]
 pub fn decide(opened: bool, t: &Table, r: Request) -> Decision
     ensures { result ≡ decided opened t.now r }
 {

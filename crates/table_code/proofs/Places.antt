@@ -1,8 +1,25 @@
 -- The places of a table, as the code walks them: the train ahead of one, and how the others move up.
 -- Assumes nothing.
-use Rattle.std.proofs.Common.{◌≡◌, ℕ, zero, suc, min, ◌+◌, ◌-◌, ◌≤◌, ◌<◌, List, [], ◌∷◌, ◌++◌, take, drop, set, get_or, length, sym, ap, ◌∙◌, arith, zero-add, length-take-le, drop-cons}
+use Rattle.std.proofs.Common.{◌≡◌, ℕ, zero, suc, min, ◌+◌, ◌-◌, ◌≤◌, ◌<◌, List, [], ◌∷◌, ◌++◌, take, drop, set, get_or, length, sym, ap, ◌∙◌, arith, zero-add, length-take-le, drop-cons, eqb, cond, refl, Option, add-one}
 use Rattle.std.proofs.lemmas.List.{take_min, drop_min, set_at}
-use Rattle.std.specs.List.{copy_within}
+use Rattle.std.proofs.lemmas.Iterator.Adapters.{position_from-zero}
+use Rattle.std.specs.List.{position, position_from, copy_within}
+use Rattle.train.specs.declared.Train.{Train}
+use Rattle.table.specs.declared.Table.{Table}
+use Rattle.table.specs.Table.{on_line, place_in, place_of}
+
+-- ---- the search
+
+placed_from : (l : List Train) (id i : ℕ) → place_in l id i ≡ position_from (λ x. eqb x.id id) i l
+unfolding place_in
+placed_from [] id i = refl
+placed_from (x ∷ l) id i = rw (placed_from l id (suc i), add-one i)
+
+pub place_sought : (t : Table) (id : ℕ) → position (λ x. eqb x.id id) (on_line t) ≡ place_of t id
+unfolding place_of
+place_sought t id = position_from-zero (λ x. eqb x.id id) (on_line t) ∙ sym (placed_from (on_line t) id 0)
+
+-- ---- moving up
 
 -- n elements at the front of l moved one place towards the front, and b at the place of the last
 pub moved_up : {X : Type 0} (l : List X) (n k : ℕ) (b : X) → 0 < n → 0 < length l → k ≡ min n (length l)

@@ -1,9 +1,9 @@
 // Finds trains in the table, and changes it. The table is lent: it is searched and changed where it stands, and none is copied.
 #![tactic(auto)]
 
-ghost use Rattle.std.specs.Prelude.{◌≡◌, ◌≤◌, ◌<◌, IfSome};
+ghost use Rattle.std.specs.Prelude.{◌≡◌, ◌≤◌, ◌<◌, IfSome, length};
 ghost use Rattle.train.specs.Ranges.{settings_of};
-ghost use Rattle.table.specs.Table.{places, blank_train, empty_table, place_of, limit_at, changed, Fits};
+ghost use Rattle.table.specs.Table.{places, blank_train, empty_table, on_line, place_of, limit_at, changed, Fits};
 
 use brake::Figures;
 use calls::Opening;
@@ -43,12 +43,20 @@ pub fn new_table(o: Opening) -> Table
 
 // ---- the search
 
-// The place of the train with this id. Whatever the count, no place past the last is read.
+// The trains on the line. Whatever the count, none past the last place.
+fn on_line(t: &Table) -> &[Train]
+    ensures trains { result.now ≡ on_line t.now }
+    ensures few { length result.now ≤ places }
+{
+    t.trains.get(..t.count).unwrap_or(&t.trains)
+}
+
+// The place of the train with this id.
 pub fn place_of(t: &Table, id: u64) -> Option<usize>
     ensures place { result ≡ place_of t.now id }
     ensures within { IfSome result (λ i. i < places) }
 {
-    t.trains[..t.count.min(PLACES)].iter().position(|x| x.id == id)
+    on_line(t).iter().position(|x| x.id == id)
 }
 
 // The limit at place i: the line end for the first train, and for any other what the train ahead leaves.
