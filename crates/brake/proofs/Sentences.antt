@@ -96,7 +96,7 @@ unfolding figures_with full_brake
 figures_exactly load l k = (found (car_of load) refl, only)
   where
     found : (car : CarFound) → car_of load ≡ car → figures_of load l ≡ Given k → Described load l k
-    found NoClass None e = let nothing = figures_none load l None in let z : ◌≡◌ {A = ℕ} 0 1 = cc in absurd (omega arith)
+    found NoClass none e = let nothing = figures_none load l none in let z : ◌≡◌ {A = ℕ} 0 1 = cc in absurd (omega arith)
     found (Rated force mass) car e =
         by_test (length_in_range l)
         (λ within.
@@ -117,15 +117,15 @@ pub no_figures_exactly : (load l : ℕ) → (figures_of load l ≡ NoFigures) �
 no_figures_exactly load l = (only, out)
   where
     has_figures : {n force mass : ℕ} → figures_of load l ≡ NoFigures → 1 ≤ l → l ≤ 10000 → load ≡ n → PerCar n force mass → ⊥
-    has_figures None shortest longest class car = let Some = given shortest longest car in let z : ◌≡◌ {A = ℕ} 0 1 = cc in omega arith
+    has_figures none shortest longest class car = let some = given shortest longest car in let z : ◌≡◌ {A = ℕ} 0 1 = cc in omega arith
 
     only : figures_of load l ≡ NoFigures → ¬ ((1 ≤ l) × (l ≤ 10000) × (1 ≤ load) × (load ≤ 3))
-    only None (shortest, longest, least, most) =
+    only none (shortest, longest, least, most) =
         by_cases (ℕ_discrete load 1)
-        (λ one. has_figures None shortest longest one loaded)
+        (λ one. has_figures none shortest longest one loaded)
         (λ a. by_cases (ℕ_discrete load 2)
-        (λ two. has_figures None shortest longest two empty)
-        (λ b. has_figures None shortest longest (omega arith) unknown))
+        (λ two. has_figures none shortest longest two empty)
+        (λ b. has_figures none shortest longest (omega arith) unknown))
 
     out : ¬ ((1 ≤ l) × (l ≤ 10000) × (1 ≤ load) × (load ≤ 3)) → figures_of load l ≡ NoFigures
     out h =

@@ -119,7 +119,7 @@ module _ (a b c d e n : ℕ) where
       )
     where
       other : (k : ℕ) → 1 ≤ k → k ≤ 8 → (code < 1) ⊎ (8 < code) → code ≡ k → ⊥
-      other k low high (inl None) is = omega arith
+      other k low high (inl none) is = omega arith
       other k low high (inr beyond) is = omega arith
 
 -- ---- answers

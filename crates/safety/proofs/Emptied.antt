@@ -33,10 +33,10 @@ module _ (o : Opening) (t : Table) (opened : open_step o ≡ outcome (Accepted Z
 
   -- where no train is on the line, the whole table is the one that was opened
   pub emptied_line : (after t ds).count ≡ 0 → after t ds ≡ t
-  emptied_line None =
+  emptied_line none =
       let (tidy, same) = tidy_after ds t (subst Tidy (sym new) (tidy_anew t o)) in
-      emptied (after t ds) tidy None ∙ ap empty_table (same ∙ ap (λ (u : Table). u.settings) new) ∙ sym new
+      emptied (after t ds) tidy none ∙ ap empty_table (same ∙ ap (λ (u : Table). u.settings) new) ∙ sym new
 
   -- the same by calls and answers alone: the trains that entered were taken off
   pub emptied_told : (told o (history t ds)).trains ≡ [] → after t ds ≡ t
-  emptied_told None = emptied_line ((demand_3 o t opened ds).count ∙ ap length None)
+  emptied_told none = emptied_line ((demand_3 o t opened ds).count ∙ ap length none)

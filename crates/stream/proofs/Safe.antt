@@ -67,7 +67,7 @@ module _ (l : List ℕ) (ls : List (List ℕ)) where
   -- a line that opens nothing alters nothing
   safe_skip : (answered closed l).session ≡ closed → Safe ls → Safe (l ∷ ls)
   unfolding after
-  safe_skip e (inl None) = inl (ap (λ (s : Session). after s ls) e ∙ None)
+  safe_skip e (inl none) = inl (ap (λ (s : Session). after s ls) e ∙ none)
   safe_skip e (inr o) =
       inr (record {
         earlier = l ∷ o.earlier;

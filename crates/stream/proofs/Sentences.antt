@@ -44,8 +44,8 @@ NoFeed (b ∷ bs) = (b ≡ 10 → ⊥) × NoFeed bs
 -- where the bytes g have come before
 line_from_lem : (g l more : List ℕ) → NoFeed l → lines g (l ++ (10 ∷ more)) ≡ (g ++ l) ∷ lines [] more
 unfolding lines
-line_from_lem g [] more None = rw append-nil refl
-line_from_lem g (b ∷ l) more (other, None) = rw (ne_eqb b 10 other, sym (append_assoc g (b ∷ []) l)) (line_from_lem (g ++ (b ∷ [])) l more None)
+line_from_lem g [] more none = rw append-nil refl
+line_from_lem g (b ∷ l) more (other, none) = rw (ne_eqb b 10 other, sym (append_assoc g (b ∷ []) l)) (line_from_lem (g ++ (b ∷ [])) l more none)
 
 -- a line feed begins anew, whatever came before it
 pub rest_anew : (g l more : List ℕ) → rest g (l ++ (10 ∷ more)) ≡ rest [] more
@@ -55,12 +55,12 @@ rest_anew g (b ∷ l) more = by_test (eqb b 10) (λ e. rw e (rest_anew [] l more
 
 rest_from : (g l : List ℕ) → NoFeed l → (lines g l ≡ []) × (rest g l ≡ g ++ l)
 unfolding lines rest
-rest_from g [] None = (refl, sym (append-nil g))
-rest_from g (b ∷ l) (other, None) = rw (ne_eqb b 10 other, sym (append_assoc g (b ∷ []) l)) (rest_from (g ++ (b ∷ [])) l None)
+rest_from g [] none = (refl, sym (append-nil g))
+rest_from g (b ∷ l) (other, none) = rw (ne_eqb b 10 other, sym (append_assoc g (b ∷ []) l)) (rest_from (g ++ (b ∷ [])) l none)
 
 -- "then a line feed": what stands before the first line feed is the first line, every byte of it and no other, and the rest is cut in the same way
 pub first_line : (l more : List ℕ) → NoFeed l → (lines [] (l ++ (10 ∷ more)) ≡ l ∷ lines [] more) × (rest [] (l ++ (10 ∷ more)) ≡ rest [] more)
-first_line l more None = (line_from_lem [] l more None, rest_anew [] l more)
+first_line l more none = (line_from_lem [] l more none, rest_anew [] l more)
 
 -- without a line feed no line is whole, and all of it is left over
 pub no_line : (l : List ℕ) → NoFeed l → (lines [] l ≡ []) × (rest [] l ≡ l)
