@@ -15,7 +15,7 @@ ghost use Rattle.stream.specs.Input.{output_line, kept_width, kept, output_width
 ghost use Rattle.stream_line_code.specs.Feeds.{NoFeed, LineEnd};
 ghost use Rattle.stream_line_code.specs.Named.{id_read};
 
-use calls::{Answer, Numbers, Refusal};
+use calls::{Answer, Numbers, Refusal, Request};
 use line::Decision;
 use stream::KEPT_WIDTH;
 use table::Table;

@@ -7,7 +7,7 @@ ghost use Rattle.wire.specs.Format.{digit as digit_after, column as column_after
 ghost use Rattle.wire_code.specs.Rows.{row_numbers};
 ghost use Rattle.wire_code.specs.Columns.{Blanked};
 
-use calls::{Numbers, ROW};
+use calls::{Numbers, ROW, Request};
 use wire::{CALL_COLUMNS, CALL_WIDTH, Field, Scan};
 
 // The numbers of a line, its code first and its caller last. Where a field is none the line is not readable, and the numbers mean nothing. (An enum may
