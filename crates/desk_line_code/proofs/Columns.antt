@@ -103,5 +103,5 @@ put_long out w room = omega (arith, line_long w, length-append (desk_line w) (dr
 pub line_whole : (out : List ℕ) (w : Shown) → length out ≡ desk_width → desk_written w out ≡ desk_line w
 line_whole out w size =
     let full : length (desk_line w) ≡ length out = line_long w ∙ sym size in
-    let None : drop (length (desk_line w)) out ≡ [] = ap (λ (n : ℕ). drop n out) full ∙ drop-length out in
-    rw (le-leb desk_width (length out) (omega arith), None) (append-nil (desk_line w))
+    let none : drop (length (desk_line w)) out ≡ [] = ap (λ (n : ℕ). drop n out) full ∙ drop-length out in
+    rw (le-leb desk_width (length out) (omega arith), none) (append-nil (desk_line w))

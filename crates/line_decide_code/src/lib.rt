@@ -6,9 +6,7 @@ ghost use Rattle.std.specs.Prelude.{◌≡◌};
 ghost use Rattle.line.specs.Decide.{refused, accepted, open_decision, decide_on, out_of_turn, decided};
 ghost use Rattle.line.specs.Step.{no_table};
 
-use acts::Verdict;
-use brake::FiguresFound;
-use calls::{Act, Answer, Ask, Call, Entry, Opening, Refusal, Request, Values};
+use calls::{Act, Ask, Call, Entry, Opening, Refusal, Request, Values};
 use line::Decision;
 use table::{Change, PLACES, Table};
 
@@ -17,7 +15,7 @@ pub fn refuse(r: Refusal) -> Decision
     ensures { result ≡ refused r }
 {
     Decision {
-        answer: Answer::Refused(r),
+        answer: Err(r),
         change: Change::Stay,
     }
 }
@@ -26,7 +24,7 @@ fn accept(v: Values, c: Change) -> Decision
     ensures { result ≡ accepted v c }
 {
     Decision {
-        answer: Answer::Accepted(v),
+        answer: Ok(v),
         change: c,
     }
 }
@@ -50,7 +48,7 @@ fn decide_enter(t: &Table, e: Entry) -> Decision
     if !(ranges::id_in_range(e.id) && ranges::start_in_range(e.start)) {
         return refuse(Refusal::BadEntry);
     }
-    let FiguresFound::Given(k) = train_code::figures_for(t.settings, e) else {
+    let Some(k) = train_code::figures_for(t.settings, e) else {
         return refuse(Refusal::BadEntry);
     };
     if table_code::place_of(t, e.id).is_some() {
@@ -78,8 +76,8 @@ fn decide_own(t: &Table, id: u64, a: Act) -> Decision
         return refuse(Refusal::NoTrain);
     };
     match acts_code::decide(t.settings, table_code::limit_at(t, i), t.trains[i], a) {
-        Verdict::TurnedDown(r) => refuse(r),
-        Verdict::Passed(v, y) => accept(v, Change::Put(i, y)),
+        Err(r) => refuse(r),
+        Ok((v, y)) => accept(v, Change::Put(i, y)),
     }
 }
 

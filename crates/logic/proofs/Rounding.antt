@@ -20,7 +20,7 @@ ceil_ge a {b} positive = let l = lt-div-mul-add {a = a + (b - 1)} positive in om
 
 pub ceil_positive : {a b : ℕ} → 0 < a → 0 < b → 0 < ceil_div a b
 unfolding ceil_div
-ceil_positive {a} {b} Some positive = (le-div_iff_mul-le positive).1 (omega arith)
+ceil_positive {a} {b} some positive = (le-div_iff_mul-le positive).1 (omega arith)
 
 pub ceil_mono : {a a' b : ℕ} → 0 < b → a ≤ a' → ceil_div a b ≤ ceil_div a' b
 ceil_mono {a} {a'} {b} positive h = ceil_le (ceil_div a' b) positive (le_trans h (ceil_ge a' positive))

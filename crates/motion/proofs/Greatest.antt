@@ -83,15 +83,15 @@ module _ (passes : ℕ → Bool) where
 module _ (passes passes' : ℕ → Bool) (n n' : ℕ) (le : n ≤ n') where
   chosen_agree : (o : Order) → ((d : ℕ) → d ≤ n → passes d ≡ passes' d) → ((d : ℕ) → n < d → d ≤ n' → passes d ≡ false)
       → Chosen passes' n o → Chosen passes n' o
-  chosen_agree (Drive c) same None g =
+  chosen_agree (Drive c) same none g =
       record {
         within = le_trans g.within le;
         itself = same c g.within ∙ g.itself;
-        above = λ d p q. by_cases (dec_le d n) (λ h. same d h ∙ g.above d p h) (λ h. None d (omega arith) q);
+        above = λ d p q. by_cases (dec_le d n) (λ h. same d h ∙ g.above d p h) (λ h. none d (omega arith) q);
       }
-  chosen_agree Brake same None g = λ d q. by_cases (dec_le d n) (λ h. same d h ∙ g d h) (λ h. None d (omega arith) q)
+  chosen_agree Brake same none g = λ d q. by_cases (dec_le d n) (λ h. same d h ∙ g d h) (λ h. none d (omega arith) q)
 
   pub greatest_agree : ((d : ℕ) → d ≤ n → passes d ≡ passes' d) → ((d : ℕ) → n < d → d ≤ n' → passes d ≡ false)
       → greatest passes n' ≡ greatest passes' n
-  greatest_agree same None =
-      greatest_only passes n' (greatest passes' n) (chosen_agree (greatest passes' n) same None (greatest_chosen passes' n))
+  greatest_agree same none =
+      greatest_only passes n' (greatest passes' n) (chosen_agree (greatest passes' n) same none (greatest_chosen passes' n))

@@ -120,7 +120,7 @@ module _ (k : Figures) (l : Maxima) (goal : ℕ) (m : Motion) where
       only e c q = unfit c (greatest_is (cap_fits k l goal m) l.traction Brake e c q)
 
       exactly : ((c : ℕ) → c ≤ l.traction → Unfit c) → order_for k l goal m ≡ Brake
-      exactly None = greatest_only (cap_fits k l goal m) l.traction Brake (λ c q. fails c (None c q))
+      exactly none = greatest_only (cap_fits k l goal m) l.traction Brake (λ c q. fails c (none c q))
 
   -- that is, where not even cap 0 fits
   pub brake_at_zero : Sound k
@@ -132,7 +132,7 @@ module _ (k : Figures) (l : Maxima) (goal : ℕ) (m : Motion) where
         where
           go : Unfit 0 → (l.ceiling < m.speed) ⊎ (goal < m.head + 2 * m.speed + stopping_distance k m.speed 0)
           go (too_fast h) = inl (omega arith)
-          go (too_far h) = inr (let None : m.speed + 0 ≡ m.speed = omega arith in let far = rw None at h in omega arith)
+          go (too_far h) = inr (let none : m.speed + 0 ≡ m.speed = omega arith in let far = rw none at h in omega arith)
 
       exactly : (l.ceiling < m.speed) ⊎ (goal < m.head + 2 * m.speed + stopping_distance k m.speed 0) → order_for k l goal m ≡ Brake
       exactly (inl fast) = brake_exactly.1 (λ c q. too_fast (omega arith))
@@ -145,7 +145,7 @@ module _ (k : Figures) (l : Maxima) (goal : ℕ) (m : Motion) where
       (drive_exactly 0).1
       (record {
         within = omega arith;
-        itself = record { ceiling = omega arith; stops = rw stands (let None = stop_none k 0 in omega arith) };
+        itself = record { ceiling = omega arith; stops = rw stands (let none = stop_none k 0 in omega arith) };
         none_greater = λ d p q. too_far (omega arith);
       })
 

@@ -28,8 +28,8 @@ pub record Slowed (k : Figures) (ceiling n : ℕ) (m : Motion) : Type 0 where
 pub slowed_start : (k : Figures) (ceiling : ℕ) (m : Motion) → m.speed ≤ speed_bound k ceiling m.level → Slowed k ceiling 0 m
 unfolding speed_bound
 slowed_start k ceiling m h =
-    let None : 0 - cycles_to_full k ≡ 0 = omega arith in
-    record { grown = omega arith; slowed = rw None (omega arith) }
+    let none : 0 - cycles_to_full k ≡ 0 = omega arith in
+    record { grown = omega arith; slowed = rw none (omega arith) }
 
 -- one braked cycle more, or a report no worse than it
 pub slowed_brake : (k : Figures) (ceiling n : ℕ) (m m' : Motion) → Sound k → Slowed k ceiling n m → NoWorse m' (worst_case k m Brake) → Slowed k ceiling (suc n) m'
@@ -46,9 +46,9 @@ slowed_brake k ceiling n m m' s p h =
           let one_more : suc n - cycles_to_full k ≡ suc (n - cycles_to_full k) = omega arith in
           rw one_more (omega arith))
           (λ building.
-          let None : n - cycles_to_full k ≡ 0 = omega arith in
+          let none : n - cycles_to_full k ≡ 0 = omega arith in
           let still_none : suc n - cycles_to_full k ≡ 0 = omega arith in
-          let start : m.speed ≤ ceiling - 0 * k.full = rw None at p.slowed in
+          let start : m.speed ≤ ceiling - 0 * k.full = rw none at p.slowed in
           rw still_none (omega arith));
     }
 

@@ -23,8 +23,8 @@ keep_first l n r e =
     let all : r ≡ n = omega (arith, leb-true) in
     rw all (sym (take_all kept_width (take n l) (omega (arith, leb-true, length-take n l)))))
     (λ t.
-    let Some : r ≡ kept_width = omega (arith, leb-false) in
-    rw Some (sym (take-take kept_width n l (omega (arith, leb-false)))))
+    let some : r ≡ kept_width = omega (arith, leb-false) in
+    rw some (sym (take-take kept_width n l (omega (arith, leb-false)))))
 
 -- one byte more, as far as it is kept
 pub keep_more : (l : List ℕ) (n r b : ℕ) → n < length l → r ≡ min (n + 1) kept_width → take r (set l n b) ≡ kept (take n l ++ (b ∷ []))

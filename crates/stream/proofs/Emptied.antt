@@ -13,11 +13,11 @@ use Rattle.stream.specs.Input.{after, answers}
 use Rattle.stream.specs.Demand3.{deeds_in, events_in, Opened}
 
 -- lines with an accepted opening among them, since which, by what they ask and what they are answered, every train that entered was taken off
-module _ (ls : List (List ℕ)) (w : Opened ls) (None : (told w.given (events_in (session true w.table) w.since)).trains ≡ []) where
+module _ (ls : List (List ℕ)) (w : Opened ls) (none : (told w.given (events_in (session true w.table) w.since)).trains ≡ []) where
   pub emptied_session : after closed ls ≡ after closed (w.line ∷ [])
   unfolding after
   emptied_session =
-      let all_left = rw w.events at None in
+      let all_left = rw w.events at none in
       w.now ∙ ap (session true) (emptied_told w.given w.table w.accepted (deeds_in w.since) all_left) ∙ sym w.opens
 
   -- whatever lines follow

@@ -11,5 +11,5 @@ NoFeed l a b = (k : ℕ) → a ≤ k → k < b → get_or l k 0 ≡ 10 → ⊥
 pub record LineEnd (l : List ℕ) (a e : ℕ) : Type 0 where
   pub from : a ≤ e
   pub within : e ≤ length l
-  pub None : NoFeed l a e
+  pub none : NoFeed l a e
   pub feed : e < length l → get_or l e 0 ≡ 10

@@ -72,14 +72,14 @@ module _ (piece before : List ℕ) (first : Standing) (out : List ℕ) (s : Sess
       → Taken x piece before (record { taken = true; stream = record { session = s; bytes = bytes₂; count = count₂ }; count = at }) out
   piece_fed x began end bytes₂ count₂ rest bounded =
       let w = take at out in
-      let None : drop e piece ≡ [] = ap (λ (n : ℕ). drop n piece) end ∙ drop-length piece in
+      let none : drop e piece ≡ [] = ap (λ (n : ℕ). drop n piece) end ∙ drop-length piece in
       let begins : kept line ≡ kept (take count₂ bytes₂) = sym (ap kept rest ∙ take-take kept_width kept_width line (omega arith)) in
       let taken =
       sym (standing_kept x.session (begun x) [] piece)
       ∙ sym began
       ∙ v.stands
       ∙ part_taken (λ g. standing s g w) (λ g. standing_byte s g w) piece (take count bytes) i e v.end
-      ∙ ap (standing s line w) None
+      ∙ ap (standing s line w) none
       ∙ standing_end s line w
       ∙ ap (λ (l : List ℕ). record { session = s; begins = l; written = w }) begins in
       piece_taken x piece before out bytes₂ s count₂ at (omega (arith, v.room, v.size, v.end.from, v.end.within)) bounded v.others taken

@@ -40,11 +40,11 @@ tidy_last t x tidy free =
     }
 
 pub tidy_without_first : (t : Table) → Tidy t → 0 < t.count → Tidy (changed t DropFirst)
-tidy_without_first t tidy Some =
+tidy_without_first t tidy some =
     let within = tidy.sized.count in
     let more : suc (32 - t.count) ≡ 32 - (t.count - 1) = omega arith in
     record {
-      sized = sized_without_first t tidy.sized Some;
+      sized = sized_without_first t tidy.sized some;
       spare =
           drop_at (drop 1 (on_line t)) _ (t.count - 1) (moved t tidy.sized)
           ∙ ap (λ (xs : List Train). blank_train ∷ xs) tidy.spare
@@ -53,4 +53,4 @@ tidy_without_first t tidy Some =
 
 -- with no train on it
 pub emptied : (t : Table) → Tidy t → t.count ≡ 0 → t ≡ record { trains = replicate 32 blank_train; settings = t.settings; count = 0 }
-emptied t tidy None = let all = rw None at tidy.spare in λ z. record { trains = all z; settings = t.settings; count = None z }
+emptied t tidy none = let all = rw none at tidy.spare in λ z. record { trains = all z; settings = t.settings; count = none z }

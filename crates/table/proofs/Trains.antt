@@ -53,7 +53,7 @@ module _ (t : Table) (z : Sized t) where
   line_without_first = take_at (drop 1 (on_line t)) _ (t.count - 1) moved
 
   pub sized_without_first : 0 < t.count → Sized (changed t DropFirst)
-  sized_without_first Some =
+  sized_without_first some =
       let joined = length-append (drop 1 (on_line t)) (blank_train ∷ drop t.count t.trains) in
       let spare = length-drop t.count t.trains in
       let line = moved in

@@ -66,7 +66,7 @@ pub fn limit_at(t: &Table, i: usize) -> Limit
     ensures { result ≡ limit_at t.now i }
 {
     if i == 0 {
-        return Limit::Place(t.settings.end);
+        return Some(t.settings.end);
     }
     train_code::limit_behind(t.settings, t.trains[i - 1])
 }

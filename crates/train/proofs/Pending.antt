@@ -79,7 +79,7 @@ module _ (a : Authority) (standing : Bool) (head r : ℕ) where
 
   -- which of them it is
   pub data Settles : Type 0 where
-    None : a.goal ≡ a.end → Settles
+    none : a.goal ≡ a.end → Settles
     there : (a.goal ≡ a.end → ⊥) → r ≤ a.goal → Settles
     past : (a.goal ≡ a.end → ⊥) → a.goal < r → standing ≡ true → a.goal < head → Settles
     waits : (a.goal ≡ a.end → ⊥) → a.goal < r → (standing ≡ false) ⊎ (head ≤ a.goal) → Settles
@@ -87,7 +87,7 @@ module _ (a : Authority) (standing : Bool) (head r : ℕ) where
   pub settles : Settles
   settles =
       by_cases (ℕ_discrete a.goal a.end)
-      (λ same. None same)
+      (λ same. none same)
       (λ pending. by_cases (dec_le r a.goal)
       (λ near. there pending near)
       (λ far. by_test standing
@@ -106,7 +106,7 @@ module _ (a : Authority) (standing : Bool) (head r : ℕ) where
   settled_numbers = go settles
     where
       go : Settles → SameNumbers (settled a standing head r)
-      go (None same) = rw (settled_none same) (record { start = refl; number = refl; length = refl })
+      go (none same) = rw (settled_none same) (record { start = refl; number = refl; length = refl })
       go (there pending near) = rw (settled_there pending near) (record { start = refl; number = refl; length = refl })
       go (past pending far stood beyond) = rw (settled_past pending far stood beyond) (record { start = refl; number = refl; length = refl })
       go (waits pending far still) = rw (settled_waits pending far still) (record { start = refl; number = refl; length = refl })
@@ -117,7 +117,7 @@ module _ (a : Authority) (standing : Bool) (head r : ℕ) where
   settled_aims within ahead reached stopped = go settles
     where
       go : Settles → ((settled a standing head r).end ≤ a.end) × Aims r (settled a standing head r)
-      go (None same) = rw (settled_none same) (le_refl _, record { reach = reached; goal = within; short = λ pending. absurd (pending same) })
+      go (none same) = rw (settled_none same) (le_refl _, record { reach = reached; goal = within; short = λ pending. absurd (pending same) })
       go (there pending near) =
           rw (settled_there pending near) (within, record { reach = near; goal = le_refl _; short = λ still. absurd (still refl) })
       go (past pending far stood beyond) =
@@ -168,7 +168,7 @@ module _ (σ : Settings) (x : Train) (m : Motion) (sound : Sound x.figures) wher
       (brakes, (moves_exactly x.figures m).0 (rw moving))
     where
       go : Settles before standing m.head (reach x.figures m given) → (given ≡ Brake) × (standing ≡ false)
-      go (None same) = absurd (pending (rw (settled_none before standing m.head (reach x.figures m given) same) same))
+      go (none same) = absurd (pending (rw (settled_none before standing m.head (reach x.figures m given) same) same))
       go (there still near) = absurd (pending (rw (settled_there before standing m.head (reach x.figures m given) still near) refl))
       go (past still far stood beyond) =
           absurd (pending (rw (settled_past before standing m.head (reach x.figures m given) still far stood beyond) refl))

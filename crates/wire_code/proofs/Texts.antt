@@ -107,7 +107,7 @@ putting_next {at = at} {l = l} {rest = rest} {j = j} {b = b} p e d =
 -- no digit is left, or no column
 pub putting_done : {l₀ : List ℕ} {at i₀ rest₀ : ℕ} {l : List ℕ} {i rest : ℕ} → Putting l₀ at i₀ rest₀ l i rest → (0 < i → rest ≡ 0)
     → filled l₀ at i₀ rest₀ ≡ l
-putting_done {at = at} {l = l} {i = i} {rest = rest} p None = p.same ∙ put_none l at i rest None ∙ spaces_left l at i (omega arith) p.spaces
+putting_done {at = at} {l = l} {i = i} {rest = rest} p none = p.same ∙ put_none l at i rest none ∙ spaces_left l at i (omega arith) p.spaces
 
 -- ---- numbers side by side
 

@@ -3,9 +3,9 @@ use mathlib.Core.Path.{refl, sym, ap, ◌∙◌}
 use Rattle.line.proofs.Steps.{placed, own_found}
 use Rattle.line_decide_code.proofs.decide_own.Goals as goal
 
-pub returns-in-TurnedDown : goal.returns-in-TurnedDown
-returns-in-TurnedDown c =
+pub returns-in-Err : goal.returns-in-Err
+returns-in-Err c =
     let a = c.args in
-    c.refuse-in-TurnedDown.ensures
+    c.refuse-in-Err.ensures
     ∙ sym (own_found a.t.now a.id c.in-Some.i _ _ (record { place = sym c.place_of.ensures.place ∙ c.in-Some.is; limited = c.limit_at.ensures; here = refl }) a.a
-    ∙ ap (placed _) (sym c.decide.ensures ∙ c.in-TurnedDown.is))
+    ∙ ap (placed _) (sym c.decide.ensures ∙ c.in-Err.is))

@@ -12,7 +12,7 @@ bounds-piece-i c = omega arith
 pub returns-then-piece-i-eq10 : goal.returns-then-piece-i-eq10
 returns-then-piece-i-eq10 c =
     let v = c.loop-i.invariant in
-    record { from = v.0; within = v.1; None = v.2; feed = λ h. c.if-piece-i-eq10.true }
+    record { from = v.0; within = v.1; none = v.2; feed = λ h. c.if-piece-i-eq10.true }
 
 pub overflow_add-i : goal.overflow_add-i
 overflow_add-i c = omega arith
@@ -26,4 +26,4 @@ loop-i-preserved c =
     (omega arith, omega arith, none_more a.piece.now a.from c.loop-i.i c.loop-i.invariant.2 c.if-piece-i-eq10.false)
 
 pub returns : goal.returns
-returns c = let v = c.loop-i.invariant in record { from = v.0; within = v.1; None = v.2; feed = λ h. absurd (omega arith) }
+returns c = let v = c.loop-i.invariant in record { from = v.0; within = v.1; none = v.2; feed = λ h. absurd (omega arith) }

@@ -14,13 +14,13 @@ use Rattle.wire_code.proofs.put.Goals as goal
 -- A blanked place, with the last digit and then the others written, has the number.
 number_put : {l₀ l out : List ℕ} {at b i rest : ℕ} (w n : ℕ) → Blanked l₀ at w l → 0 < w → at + (w - 1) < length l → b ≡ digit_of n
     → Putting (set l (at + (w - 1)) b) at (w - 1) (n / 10) out i rest → (0 < i → rest ≡ 0) → out ≡ paste l₀ at (text w n) w
-number_put {l = l} {at = at} w n blanked Some room digit putting None =
+number_put {l = l} {at = at} w n blanked some room digit putting none =
     let last : w ≡ suc (w - 1) = omega arith in
     sym (
     blanked_put blanked (text w n)
     ∙ ap (λ (v : ℕ). paste l at (text v n) v) last
     ∙ put_last l at (w - 1) n _ room digit
-    ∙ putting_done putting None
+    ∙ putting_done putting none
     )
 
 pub overflow_sub-i : goal.overflow_sub-i
