@@ -1,15 +1,12 @@
 -- `wire_code::read_line` meets its contract.
-use mathlib.Core.Path.{sym, ap, ◌∙◌}
+use mathlib.Core.Path.{ap, ◌∙◌}
 use Rattle.wire.specs.Format.{request_by, line_read}
-use Rattle.wire_code.proofs.Rows.{row_unread, row_read}
 use Rattle.wire_code.proofs.read_line.Goals as goal
 
-pub returns-then-not-row : goal.returns-then-not-row
+pub returns-in-Some : goal.returns-in-Some
 unfolding line_read
-returns-then-not-row c =
-    ap request_by (sym (row_unread c.read_row-row.result c.if-not-row.true) ∙ c.read_row-row.ensures)
+returns-in-Some c = c.request_of.ensures ∙ ap request_by c.in-Some.ensures
 
-pub returns : goal.returns
+pub returns-in-None : goal.returns-in-None
 unfolding line_read
-returns c =
-    c.request_of.ensures ∙ ap request_by (sym (row_read c.read_row-row.result c.if-not-row.false) ∙ c.read_row-row.ensures)
+returns-in-None c = ap request_by c.in-None.ensures
