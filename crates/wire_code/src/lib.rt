@@ -6,7 +6,7 @@ ghost use Rattle.std.proofs.Math.Seq.{paste};
 ghost use Rattle.wire.specs.Format.{digit as digit_after, column as column_after, so_far, field_of, call_columns, call_width, numbers_in, row_in, line_read, digit_of, text, room_at, rendered};
 ghost use Rattle.wire_code.specs.Columns.{Blanked};
 
-use calls::{Numbers, ROW, RequestRead};
+use calls::{Numbers, ROW, Request};
 use wire::{CALL_COLUMNS, CALL_WIDTH, Scan};
 
 // The columns of an output line: the answer, and each of its three numbers.
@@ -93,13 +93,11 @@ pub fn read_row(line: &[u8]) -> Option<[u64; ROW]>
 }
 
 // What an input line asks, given without its line feed.
-pub fn read_line(line: &[u8]) -> RequestRead
+#[tactic(auto, unfolding(wire::specs::Format::line_read))]
+pub fn read_line(line: &[u8]) -> Option<Request>
     ensures { result ≡ line_read line.now }
 {
-    match read_row(line) {
-        Some(row) => calls_code::request_of(row),
-        None => RequestRead::Unreadable,
-    }
+    read_row(line).and_then(calls_code::request_of)
 }
 
 // ---- writing
