@@ -1,5 +1,5 @@
 -- What the search for the greatest cap takes for granted. Document 01 has the order only (motion/specs/Orders: order_for).
-use Rattle.std.specs.Prelude.{ℕ, ◌+◌, ◌-◌, ◌/◌, ◌≤◌, ◌<◌, List, ◌≡◌, length, get_or, take}
+use Rattle.std.specs.Prelude.{ℕ, ◌+◌, ◌-◌, ◌/◌, ◌≤◌, ◌<◌, List, Option, None, Some, ◌≡◌, length, get_or, take}
 use Rattle.brake.specs.declared.Figures.{Figures}
 use Rattle.brake.specs.declared.FiguresFound.TheVariants.{Given}
 use Rattle.brake.specs.Consist.{figures_of}
@@ -19,6 +19,11 @@ pub record CapsAllowed (k : Figures) (l : Maxima) (v n : ℕ) : Type 0 where
   pub within : n ≤ l.traction + 1
   pub keep : (c : ℕ) → c < n → drive_speed k v c ≤ l.ceiling
   pub exceed : (c : ℕ) → n ≤ c → c ≤ l.traction → l.ceiling < drive_speed k v c
+
+-- how many caps there are, counted from 0, up to the greatest one; where there is none, none
+abbrev pub caps_up_to : Option ℕ → ℕ
+caps_up_to None = 0
+caps_up_to (Some most) = most + 1
 
 -- Places of the two arrays. The first is enough where few levels are read; no list of a consist is longer than the second
 -- (caps/proofs/Levels: slow_run, list_within).
