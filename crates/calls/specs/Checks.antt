@@ -1,6 +1,5 @@
 -- Document 01, "What is turned down": the checks of a call, in the order in which they run.
-use Rattle.std.specs.Prelude.{Bool, cond, List, [], ◌∷◌}
-use Rattle.std.proofs.Math.Option.{Option, none, some}
+use Rattle.std.specs.Prelude.{Bool, cond, List, [], ◌∷◌, Option, None, Some}
 use Rattle.calls.specs.declared.Refusal.{Refusal}
 
 -- whether a check applies, and what it turns the call down with
@@ -13,5 +12,5 @@ check b r = record { applies = b; refusal = r }
 
 -- the first that applies is the answer; where none does, the call is accepted
 unfoldable pub first_of : List Check → Option Refusal
-first_of [] = none
-first_of (c ∷ cs) = cond c.applies (some c.refusal) (first_of cs)
+first_of [] = None
+first_of (c ∷ cs) = cond c.applies (Some c.refusal) (first_of cs)

@@ -11,7 +11,7 @@ use native.Mathlib.Omega.{arith}
 use lib.ListN.{length}
 use borrow.Author.Tests.{le-leb, lt-leb}
 use Rattle.brake.specs.declared.Figures.{Figures}
-use Rattle.brake.specs.declared.FiguresFound.TheVariants.{Given}
+use Rattle.std.specs.Prelude.{Some}
 use Rattle.brake.specs.Consist.{Sound, figures_of}
 use Rattle.ranges.specs.Ranges.{greatest_traction}
 use Rattle.motion.specs.declared.Motion.{Motion}
@@ -72,7 +72,7 @@ pub list_short : (k : Figures) → Sound k → k.full ≤ 239 * k.growth → len
 list_short k s h = list_ends k s 239 (entry_full k 239 h)
 
 -- and no consist's is longer
-pub list_most : (load l : ℕ) (k : Figures) → figures_of load l ≡ Given k → length (level_list k) ≤ longest_list
+pub list_most : (load l : ℕ) (k : Figures) → figures_of load l ≡ Some k → length (level_list k) ≤ longest_list
 list_most load l k e = (list_within load l k e).1
 
 -- n entries that are enough for a run are enough for a slower one

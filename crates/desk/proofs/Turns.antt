@@ -1,8 +1,8 @@
 -- Laws of a piece that the desk takes line by line, from place to place of the loop in `take_piece`. Assumes nothing.
+use Rattle.std.specs.Prelude.{Option}
 use Prim.Native.Nat.{ℕ, ◌+◌, ◌-◌, ◌≤◌, ◌<◌}
 use native.Mathlib.Numerals.{add-one}
 use native.Mathlib.Omega.{arith}
-use mathlib.Core.Option.{Option}
 use mathlib.Core.Path.{◌≡◌, sym, ap, ◌∙◌}
 use mathlib.Core.List.{List, [], ◌∷◌, ◌++◌}
 use lib.ListN.{length, take, drop, get_or}
@@ -74,5 +74,5 @@ module _ (piece : List ℕ) (first : Standing) (s : Session) (bytes : List ℕ) 
   pub piece_taken : e ≡ length piece → first ≡ record { session = s; begins = l }
   unfolding lines rest desk_after
   piece_taken end =
-      let none : drop e piece ≡ [] = ap (λ (n : ℕ). drop n piece) end ∙ drop-length piece in
-      at_end ∙ ap (standing s (take count bytes ++ take (e - i) (drop i piece))) none ∙ ap (λ (k : List ℕ). record { session = s; begins = k }) (sym line)
+      let None : drop e piece ≡ [] = ap (λ (n : ℕ). drop n piece) end ∙ drop-length piece in
+      at_end ∙ ap (standing s (take count bytes ++ take (e - i) (drop i piece))) None ∙ ap (λ (k : List ℕ). record { session = s; begins = k }) (sym line)

@@ -1,9 +1,9 @@
 -- What stays true of a train on the line, whatever is called: a property of its record that its own acts keep.
 -- Assumes nothing.
+use Rattle.std.specs.Prelude.{None, Some, Option}
 use Prim.Native.Nat.{ℕ, zero, suc, ◌<◌}
 use mathlib.Core.Bool.{true}
 use mathlib.Core.Logic.{by_cases}
-use mathlib.Core.Option.{none, some}
 use mathlib.Core.Path.{◌≡◌, refl, sym, ap, ◌∙◌, subst}
 use native.Mathlib.Decide.{ℕ_discrete}
 use native.Mathlib.Omega.{arith}
@@ -22,7 +22,6 @@ use Rattle.calls.specs.Checks.{first_of}
 use Rattle.calls.proofs.Answers.{accepted_0, refusal_range}
 use Rattle.train.specs.declared.Train.{Train}
 use Rattle.train.specs.declared.Settings.{Settings}
-use Rattle.train.specs.declared.Limit.{Limit}
 use Rattle.train.specs.Ranges.{WorksWith}
 use Rattle.train.specs.Record.{entering}
 use Rattle.acts.specs.Acts.{may_leave}
@@ -98,8 +97,8 @@ works_request o t works r = subst (WorksWith o) (sym (settings_request t r)) wor
 -- the train that acted, at its place; it passed its checks, and its record there is another
 pub record Acted (t : Table) (id : ℕ) (a : Act) (u : Table) : Type 0 where
   pub place : ℕ
-  pub found : place_of t id ≡ some place
-  pub passes : first_of (ruling_at t a place).checks ≡ none
+  pub found : place_of t id ≡ Some place
+  pub passes : first_of (ruling_at t a place).checks ≡ None
   pub table : u ≡ changed t (Put place (ruling_at t a place).after)
 
 pub own_accepted : (t : Table) (id : ℕ) (a : Act) → (numbers_of (step t (Own id a)).answer).number ≡ 0 → Acted t id a (step t (Own id a)).table
@@ -140,7 +139,7 @@ request_taken t r c =
 -- the train with this id is on the line, and its record has the property Q
 pub record Holds (Q : Train → Type 0) (id : ℕ) (t : Table) : Type 0 where
   pub place : ℕ
-  pub found : place_of t id ≡ some place
+  pub found : place_of t id ≡ Some place
   pub so : Q (train_at t place)
 
 -- what is asked, with this answer number, does not take it off, and if it is an accepted act of it, keeps the property
@@ -148,7 +147,7 @@ abbrev pub Keeps : (Train → Type 0) → ℕ → ℕ → Ask → Type 0
 Keeps Q id n (Open o) = Unit {0}
 Keeps Q id n (OnTable (Enter e)) = Unit {0}
 Keeps Q id n (OnTable (Own j a)) =
-    j ≡ id → n ≡ 0 → (σ : Settings) (limit : Limit) (x : Train) → first_of (decide σ limit x a).checks ≡ none → Q x → Q (decide σ limit x a).after
+    j ≡ id → n ≡ 0 → (σ : Settings) (limit : Option ℕ) (x : Train) → first_of (decide σ limit x a).checks ≡ None → Q x → Q (decide σ limit x a).after
 Keeps Q id n (OnTable (TakeOff j)) = j ≡ id → n ≡ 0 → ⊥
 
 module _ (Q : Train → Type 0) (id : ℕ) (t : Table) (sized : Sized t) (h : Holds Q id t) where
@@ -175,7 +174,7 @@ module _ (Q : Train → Type 0) (id : ℕ) (t : Table) (sized : Sized t) (h : Ho
         so = subst Q (sym (there i below)) h.so;
       }
 
-  after_act_lem : (j p : ℕ) (a : Act) → place_of t j ≡ some p → first_of (ruling_at t a p).checks ≡ none → Keeps Q id 0 (OnTable (Own j a)) → Holds Q id (changed t (Put p (ruling_at t a p).after))
+  after_act_lem : (j p : ℕ) (a : Act) → place_of t j ≡ Some p → first_of (ruling_at t a p).checks ≡ None → Keeps Q id 0 (OnTable (Own j a)) → Holds Q id (changed t (Put p (ruling_at t a p).after))
   after_act_lem j p a f q keeps =
       let y = (ruling_at t a p).after in
       let same = (act_leaves t.settings _ (train_at t p) a).id in
@@ -191,7 +190,7 @@ module _ (Q : Train → Type 0) (id : ℕ) (t : Table) (sized : Sized t) (h : Ho
       }
 
   -- the train that leaves is the first, and another
-  after_off : (j p : ℕ) → place_of t j ≡ some p → may_leave p (train_at t p) ≡ true → (j ≡ id → ⊥) → Holds Q id (changed t DropFirst)
+  after_off : (j p : ℕ) → place_of t j ≡ Some p → may_leave p (train_at t p) ≡ true → (j ≡ id → ⊥) → Holds Q id (changed t DropFirst)
   after_off j p f may other = go i refl
     where
       at_front : p ≡ 0

@@ -1,19 +1,17 @@
 -- An accepted act of a train: its record is what the history tells, the invariant holds on, and what the act gives is within bounds.
 -- Assumes nothing.
+use Rattle.std.specs.Prelude.{Option, None, Some, option_map, unwrap_or, is_some, Ok}
 use Prim.Native.Nat.{ℕ, zero, suc, ◌+◌, ◌≤◌, ◌<◌}
 use mathlib.Core.Bool.{Bool, true, false, cond, not, ◌&&◌}
 use mathlib.Core.Logic.{by_cases}
-use mathlib.Core.Option.{Option, none, some, map, get_or}
 use mathlib.Core.Path.{◌≡◌, refl, sym, ap, ◌∙◌, subst}
 use native.Mathlib.Decide.{ℕ_discrete}
 use native.Mathlib.Nat.{le_refl}
 use native.Mathlib.Omega.{arith}
 use lib.Dec.{leb, eqb}
 use borrow.Author.Tests.{not-false, eq-eqb, ne_eqb, lt-ltb, le-ltb, leb-true, leb-false}
-use Rattle.logic.specs.Options.{is_some}
 use Rattle.logic.proofs.Tests.{by_test}
 use Rattle.brake.specs.declared.Figures.{Figures}
-use Rattle.brake.specs.declared.FiguresFound.TheVariants.{Given}
 use Rattle.brake.specs.Consist.{figures_of}
 use Rattle.motion.specs.declared.Motion.{Motion}
 use Rattle.motion.specs.declared.Order.{Order}
@@ -26,7 +24,6 @@ use Rattle.calls.specs.declared.Reading.{Reading}
 use Rattle.calls.specs.declared.Extension.{Extension}
 use Rattle.calls.specs.declared.Act.{Act}
 use Rattle.calls.specs.declared.Act.TheVariants.{Report, Extend, CallBack, Hold, Lift}
-use Rattle.calls.specs.declared.Answer.TheVariants.{Accepted}
 use Rattle.calls.specs.declared.Values.{Values}
 use Rattle.calls.specs.declared.Values.TheVariants.{Entered, Ordered, Extended, Zeros}
 use Rattle.calls.specs.Answers.{numbers_of}
@@ -35,7 +32,6 @@ use Rattle.calls.proofs.Checks.{passed}
 use Rattle.train.specs.declared.Settings.{Settings}
 use Rattle.train.specs.declared.Authority.{Authority}
 use Rattle.train.specs.declared.Train.{Train}
-use Rattle.train.specs.declared.Limit.{Limit}
 use Rattle.train.specs.Track.{within_limit}
 use Rattle.train.specs.Record.{ending_at, wanting, is_pending}
 use Rattle.train.specs.Report.{reach_of, allowed, motion_after, moves, order_after, is_penalty, settled, reported}
@@ -54,12 +50,12 @@ use Rattle.safety.proofs.Train.{AtRest, Guarded, guarded_report, guarded_still}
 
 -- Held, or braked while moving, with reports since: the first of them ordered the brake, and each of the n others ended a braked cycle.
 abbrev pub Slowing : Settings → Train → Option ℕ → Type 0
-Slowing σ x none = Unit {0}
-Slowing σ x (some zero) = Unit {0}
-Slowing σ x (some (suc n)) = (x.order ≡ Brake) × Slowed x.figures σ.maxima.ceiling n x.motion
+Slowing σ x None = Unit {0}
+Slowing σ x (Some zero) = Unit {0}
+Slowing σ x (Some (suc n)) = (x.order ≡ Brake) × Slowed x.figures σ.maxima.ceiling n x.motion
 
-pub record Steady (σ : Settings) (limit : Limit) (x : Told) : Type 0 where
-  pub consist : figures_of x.entry.load x.entry.length ≡ Given x.figures
+pub record Steady (σ : Settings) (limit : Option ℕ) (x : Told) : Type 0 where
+  pub consist : figures_of x.entry.load x.entry.length ≡ Some x.figures
   pub guarded : Guarded σ limit (record_of x)
   pub held_slows : Slowing σ (record_of x) x.now.counts.held
   pub braked_slows : Slowing σ (record_of x) x.now.counts.braked
@@ -67,7 +63,7 @@ pub record Steady (σ : Settings) (limit : Limit) (x : Told) : Type 0 where
 -- ---- the record that a report tells of
 
 -- the order is read back from the answer
-order_told : (o : Order) (r : ℕ) → order_in (numbers_of (Accepted (Ordered o r))) ≡ o
+order_told : (o : Order) (r : ℕ) → order_in (numbers_of (Ok (Ordered o r))) ≡ o
 order_told (Drive c) r = refl
 order_told Brake r = refl
 
@@ -76,9 +72,9 @@ level_worst k m (Drive c) = refl
 level_worst k m Brake = refl
 
 -- a report leaves the mark of a hold
-still_held : (n : Option ℕ) → is_some (map suc n) ≡ is_some n
-still_held none = refl
-still_held (some n) = refl
+still_held : (n : Option ℕ) → is_some (option_map suc n) ≡ is_some n
+still_held None = refl
+still_held (Some n) = refl
 
 -- what becomes of a pending call back: the history tells it by a place short of the end
 done_settled : (r : ℕ) (standing : Bool) (head : ℕ) (a : Authority) → a.goal ≤ a.end → done_by r standing head a ≡ settled a standing head r
@@ -91,18 +87,18 @@ done_settled r standing head a within =
 -- ---- an accepted act
 
 -- what an act gives, of a train with this limit
-abbrev pub Within : Settings → Limit → Values → Type 0
+abbrev pub Within : Settings → Option ℕ → Values → Type 0
 Within σ limit (Entered full growth e) = ⊥
 Within σ limit (Ordered o r) = (order_cap o ≤ σ.maxima.traction) × InLimit limit r
 Within σ limit (Extended e repeat) = InLimit limit e
 Within σ limit Zeros = Unit {0}
 
-module _ (σ : Settings) (limit : Limit) (x : Told) (steady : Steady σ limit x) where
+module _ (σ : Settings) (limit : Option ℕ) (x : Told) (steady : Steady σ limit x) where
   abbrev pub ruling_on : Act → Ruling
   ruling_on = decide σ limit (record_of x)
 
   abbrev pub after_act : Act → Told
-  after_act a = record { entry = x.entry; figures = x.figures; now = told_act x.figures x.now (numbers_of (Accepted (ruling_on a).gives)) a }
+  after_act a = record { entry = x.entry; figures = x.figures; now = told_act x.figures x.now (numbers_of (Ok (ruling_on a).gives)) a }
 
   pub record Acted (a : Act) : Type 0 where
     pub told : record_of (after_act a) ≡ (ruling_on a).after
@@ -121,7 +117,7 @@ module _ (σ : Settings) (limit : Limit) (x : Told) (steady : Steady σ limit x)
     given = order_after σ (record_of x) m
 
     -- one more, where it orders the brake
-    slowing_brake : (n : ℕ) → Slowing σ (record_of x) (some n) → given ≡ Brake → Slowing σ (reported σ (record_of x) r) (some (suc n))
+    slowing_brake : (n : ℕ) → Slowing σ (record_of x) (Some n) → given ≡ Brake → Slowing σ (reported σ (record_of x) r) (Some (suc n))
     unfolding reported record_of
     slowing_brake zero slow brakes =
         (brakes, slowed_start x.figures σ.maxima.ceiling m (guarded_report σ limit (record_of x) steady.guarded r e).within.speed)
@@ -130,14 +126,14 @@ module _ (σ : Settings) (limit : Limit) (x : Told) (steady : Steady σ limit x)
         let braked = subst (λ (o : Order). NoWorse m (worst_case k (record_of x).motion o)) brake (allowed_no_worse (record_of x) r e) in
         (brakes, slowed_brake k σ.maxima.ceiling n (record_of x).motion m steady.guarded.figures slowed braked)
 
-    held_report : (c : Option ℕ) → x.now.counts.held ≡ c → Slowing σ (reported σ (record_of x) r) (map suc c)
+    held_report : (c : Option ℕ) → x.now.counts.held ≡ c → Slowing σ (reported σ (record_of x) r) (option_map suc c)
     unfolding record_of
-    held_report none held = tt
-    held_report (some n) held =
+    held_report None held = tt
+    held_report (Some n) held =
         slowing_brake n (subst (Slowing σ (record_of x)) held steady.held_slows) (held_brakes σ (record_of x) m (rw held))
 
     -- braked while moving, it gets no other order while it moves
-    braked_on : (n : ℕ) (c : ℕ) → x.now.counts.braked ≡ some n → stands x.figures m.speed m.level ≡ false → given ≡ Drive c → ⊥
+    braked_on : (n : ℕ) (c : ℕ) → x.now.counts.braked ≡ Some n → stands x.figures m.speed m.level ≡ false → given ≡ Drive c → ⊥
     unfolding record_of moves
     braked_on n c braked moving drives =
         let same : Drive c ≡ Brake = sym drives ∙ penalty_brakes σ (record_of x) m (rw braked) (rw moving) in
@@ -154,14 +150,14 @@ module _ (σ : Settings) (limit : Limit) (x : Told) (steady : Steady σ limit x)
     braked_report true Brake stood brakes = record { mark = refl; slows = tt }
     braked_report false Brake moving brakes = record { mark = refl; slows = go x.now.counts.braked refl }
       where
-        go : (c : Option ℕ) → x.now.counts.braked ≡ c → Slowing σ (reported σ (record_of x) r) (some (suc (get_or c 0)))
-        go none braked = slowing_brake 0 tt brakes
-        go (some n) braked = slowing_brake n (subst (Slowing σ (record_of x)) braked steady.braked_slows) brakes
+        go : (c : Option ℕ) → x.now.counts.braked ≡ c → Slowing σ (reported σ (record_of x) r) (Some (suc (unwrap_or c 0)))
+        go None braked = slowing_brake 0 tt brakes
+        go (Some n) braked = slowing_brake n (subst (Slowing σ (record_of x)) braked steady.braked_slows) brakes
     braked_report false (Drive c) moving drives = go x.now.counts.braked refl
       where
         go : (n : Option ℕ) → x.now.counts.braked ≡ n → Counted false (Drive c)
-        go none braked = record { mark = rw braked; slows = rw braked tt }
-        go (some n) braked = absurd (braked_on n c braked moving drives)
+        go None braked = record { mark = rw braked; slows = rw braked tt }
+        go (Some n) braked = absurd (braked_on n c braked moving drives)
 
   -- ---- where motion and order stay
 
@@ -180,14 +176,14 @@ module _ (σ : Settings) (limit : Limit) (x : Told) (steady : Steady σ limit x)
       }
     where
       go : (n : Option ℕ) → Slowing σ (record_of x) n → Slowing σ (record_of (stays a (record { held = c; braked = x.now.counts.braked }))) n
-      go none slow = tt
-      go (some zero) slow = tt
-      go (some (suc n)) slow = slow
+      go None slow = tt
+      go (Some zero) slow = tt
+      go (Some (suc n)) slow = slow
 
   -- held already, a train goes on slowing; held now, it has had no report
-  slowing_hold : (n : Option ℕ) → Slowing σ (record_of x) n → Slowing σ (record_of x) (some (get_or n 0))
-  slowing_hold none slow = tt
-  slowing_hold (some n) slow = slow
+  slowing_hold : (n : Option ℕ) → Slowing σ (record_of x) n → Slowing σ (record_of x) (Some (unwrap_or n 0))
+  slowing_hold None slow = tt
+  slowing_hold (Some n) slow = slow
 
   -- b says whether an extension is a repeat
   extended_end : (q : Extension) (b : Bool) → not b && not (within_limit limit (x.now.authority.end + q.length)) ≡ false
@@ -210,7 +206,7 @@ module _ (σ : Settings) (limit : Limit) (x : Told) (steady : Steady σ limit x)
 
   -- ---- any act
 
-  pub act_kept : (a : Act) → first_of (ruling_on a).checks ≡ none → Acted a
+  pub act_kept : (a : Act) → first_of (ruling_on a).checks ≡ None → Acted a
   unfolding record_of told_act moves is_penalty reported extended is_repeat called_back
   act_kept (Report r) e =
       let allows = report_allowed_lem σ (record_of x) r (passed _ _ _ e).0 in
@@ -252,10 +248,10 @@ module _ (σ : Settings) (limit : Limit) (x : Told) (steady : Steady σ limit x)
       let g = steady.guarded in
       record {
         told = refl;
-        keeps = steady_still x.now.authority (some (get_or x.now.counts.held 0)) g.end_in_limit g.aims g.at_rest (slowing_hold x.now.counts.held steady.held_slows);
+        keeps = steady_still x.now.authority (Some (unwrap_or x.now.counts.held 0)) g.end_in_limit g.aims g.at_rest (slowing_hold x.now.counts.held steady.held_slows);
         onward = le_refl _;
         within = tt;
       }
   act_kept Lift e =
       let g = steady.guarded in
-      record { told = refl; keeps = steady_still x.now.authority none g.end_in_limit g.aims g.at_rest tt; onward = le_refl _; within = tt }
+      record { told = refl; keeps = steady_still x.now.authority None g.end_in_limit g.aims g.at_rest tt; onward = le_refl _; within = tt }

@@ -1,9 +1,9 @@
 -- Which train an id names: what the search for it says of the trains told.
 -- Assumes nothing.
+use Rattle.std.specs.Prelude.{Option, None, Some}
 use Prim.Native.Nat.{ℕ, zero, suc, ◌+◌}
 use mathlib.Core.Bool.{true, false}
 use mathlib.Core.List.{List, [], ◌∷◌, map}
-use mathlib.Core.Option.{Option, none, some}
 use mathlib.Core.Path.{◌≡◌, sym, ◌∙◌}
 use native.Mathlib.Omega.{arith}
 use lib.Dec.{eqb}
@@ -29,7 +29,7 @@ IsAt id (x ∷ xs) (suc i) = (x.entry.id ≡ id → ⊥) × IsAt id xs i
 abbrev placed : ℕ → List Told → ℕ → Option ℕ
 placed id xs n = place_in (map record_of xs) id n
 
-place_here : (id : ℕ) (x : Told) (xs : List Told) (n : ℕ) → eqb x.entry.id id ≡ true → placed id (x ∷ xs) n ≡ some n
+place_here : (id : ℕ) (x : Told) (xs : List Told) (n : ℕ) → eqb x.entry.id id ≡ true → placed id (x ∷ xs) n ≡ Some n
 unfolding place_in record_of
 place_here id x xs n e = rw e
 
@@ -37,14 +37,14 @@ place_next : (id : ℕ) (x : Told) (xs : List Told) (n : ℕ) → eqb x.entry.id
 unfolding place_in record_of
 place_next id x xs n e = rw e
 
-pub missing : (id : ℕ) (xs : List Told) (n : ℕ) → placed id xs n ≡ none → Absent id xs
+pub missing : (id : ℕ) (xs : List Told) (n : ℕ) → placed id xs n ≡ None → Absent id xs
 missing id [] n e = tt
 missing id (x ∷ xs) n e =
     by_test (eqb x.entry.id id)
     (λ q. let z : ◌≡◌ {A = ℕ} 0 1 = cc (place_here id x xs n q) in absurd (omega arith))
     (λ q. (eqb-false _ _ q, missing id xs (suc n) (sym (place_next id x xs n q) ∙ e)))
 
-pub found : (id : ℕ) (xs : List Told) (n i : ℕ) → placed id xs n ≡ some i → (j : ℕ) × (i ≡ n + j) × IsAt id xs j
+pub found : (id : ℕ) (xs : List Told) (n i : ℕ) → placed id xs n ≡ Some i → (j : ℕ) × (i ≡ n + j) × IsAt id xs j
 unfolding place_in
 found id [] n i e = let z : ◌≡◌ {A = ℕ} 0 1 = cc in absurd (omega arith)
 found id (x ∷ xs) n i e =

@@ -1,11 +1,11 @@
 -- Document 02, (vi), over every list of deeds: what a pending call back leaves as it is, and when it ends. `step` is what a call comes to by a
 -- caller with the right; one without it leaves the table (line/proofs/Rights: call_16).
 -- Assumes nothing.
+use Rattle.std.specs.Prelude.{Option, None, Some, Ok, Err}
 use Prim.Native.Nat.{ℕ, zero, suc, ◌+◌, ◌≤◌, ◌<◌}
 use mathlib.Core.Bool.{true}
 use mathlib.Core.List.{List, [], ◌∷◌, ◌++◌}
 use mathlib.Core.Logic.{by_cases, ◌⊎◌, inl, inr}
-use mathlib.Core.Option.{Option, none, some}
 use mathlib.Core.Path.{◌≡◌, refl, sym, ap, subst, ◌∙◌}
 use native.Mathlib.Decide.{ℕ_discrete, dec_le}
 use native.Mathlib.Nat.{le_refl}
@@ -34,14 +34,12 @@ use Rattle.calls.specs.declared.Ask.TheVariants.{Open, OnTable}
 use Rattle.calls.specs.declared.Request.{Request}
 use Rattle.calls.specs.declared.Refusal.{Refusal}
 use Rattle.calls.specs.declared.Refusal.TheVariants.{NotLeaving}
-use Rattle.calls.specs.declared.Answer.TheVariants.{Accepted, Refused}
 use Rattle.calls.specs.declared.Values.TheVariants.{Zeros}
 use Rattle.calls.specs.Answers.{numbers_of}
 use Rattle.calls.specs.Requests.{request}
 use Rattle.calls.specs.Checks.{first_of}
 use Rattle.calls.proofs.Checks.{passed}
 use Rattle.train.specs.declared.Settings.{Settings}
-use Rattle.train.specs.declared.Limit.{Limit}
 use Rattle.train.specs.declared.Train.{Train}
 use Rattle.train.specs.Report.{reach_of, allowed, motion_after, reported}
 use Rattle.train.proofs.Checks.{report_allowed_lem, allowed_no_worse}
@@ -74,15 +72,15 @@ Braking ceiling (suc n) x = (x.order ≡ Brake) × (0 < x.motion.speed) × Slowe
 abbrev pub Waiting : ℕ → Table → Type 0
 Waiting id t = Holds (λ (x : Train). x.authority.goal ≡ x.authority.end → ⊥) id t
 
-module _ (o : Opening) (t : Table) (opened : open_step o ≡ outcome (Accepted Zeros) t) (ds : List Deed) where
+module _ (o : Opening) (t : Table) (opened : open_step o ≡ outcome (Ok Zeros) t) (ds : List Deed) where
   abbrev now : Table
   now = after t ds
 
-  module _ (id i : ℕ) (found : place_of now id ≡ some i) where
+  module _ (id i : ℕ) (found : place_of now id ≡ Some i) where
     abbrev x : Train
     x = train_at now i
 
-    abbrev limit : Limit
+    abbrev limit : Option ℕ
     limit = limit_at now i
 
     guarded : Guarded now.settings limit x
@@ -96,19 +94,19 @@ module _ (o : Opening) (t : Table) (opened : open_step o ≡ outcome (Accepted Z
     pending_short = guarded.aims.short
 
     -- the train is not taken off meanwhile: it does not stand under brake
-    pub pending_stays : (x.authority.goal ≡ x.authority.end → ⊥) → step now (TakeOff id) ≡ outcome (Refused NotLeaving) now
+    pub pending_stays : (x.authority.goal ≡ x.authority.end → ⊥) → step now (TakeOff id) ≡ outcome (Err NotLeaving) now
     pending_stays pending = take_off_15 now id i found (λ leaves. pending (guarded.at_rest leaves.2 leaves.1))
 
     -- the train's record after an act of it, whether it was taken or not
     abbrev then : Act → Train
     then a = train_at (step now (Own id a)).table i
 
-    acted : (Q : Train → Type 0) (a : Act) → Q x → (first_of (decide now.settings limit x a).checks ≡ none → Q (decide now.settings limit x a).after) → Q (then a)
+    acted : (Q : Train → Type 0) (a : Act) → Q x → (first_of (decide now.settings limit x a).checks ≡ None → Q (decide now.settings limit x a).after) → Q (then a)
     acted Q a stays goes = go (first_of (decide now.settings limit x a).checks) refl
       where
         go : (f : Option Refusal) → first_of (decide now.settings limit x a).checks ≡ f → Q (then a)
-        go none e = rw (own_step now id i found a _ (ap (λ (f : Option Refusal). verdict_by f (decide now.settings limit x a)) e), still_there now id i (decide now.settings limit x a).after found) (goes e)
-        go (some r) e = rw (own_step now id i found a _ (ap (λ (f : Option Refusal). verdict_by f (decide now.settings limit x a)) e)) stays
+        go None e = rw (own_step now id i found a _ (ap (λ (f : Option Refusal). verdict_by f (decide now.settings limit x a)) e), still_there now id i (decide now.settings limit x a).after found) (goes e)
+        go (Some r) e = rw (own_step now id i found a _ (ap (λ (f : Option Refusal). verdict_by f (decide now.settings limit x a)) e)) stays
 
     -- no report and no call back moves the end forward
     pub report_not_forward : (r : Reading) → (then (Report r)).authority.end ≤ x.authority.end
@@ -138,7 +136,7 @@ module _ (o : Opening) (t : Table) (opened : open_step o ≡ outcome (Accepted Z
       reads : then (Report r) ≡ reported now.settings x r
       reads = ap (λ (u : Table). train_at u i) table_then ∙ still_there now id i (reported now.settings x r) found
 
-      found_then : place_of (step now (Own id (Report r))).table id ≡ some i
+      found_then : place_of (step now (Own id (Report r))).table id ≡ Some i
       unfolding reported
       found_then = ap (λ (u : Table). place_of u id) table_then ∙ still_found now i (reported now.settings x r) below refl id ∙ found
 
@@ -146,7 +144,7 @@ module _ (o : Opening) (t : Table) (opened : open_step o ≡ outcome (Accepted Z
       allows =
           let a = own_accepted now id (Report r) taken in
           let here : a.place ≡ i = cc a.found in
-          report_allowed_lem now.settings x r (passed _ _ _ (subst (λ (p : ℕ). first_of (ruling_at now (Report r) p).checks ≡ none) here a.passes)).0
+          report_allowed_lem now.settings x r (passed _ _ _ (subst (λ (p : ℕ). first_of (ruling_at now (Report r) p).checks ≡ None) here a.passes)).0
 
       -- pending after it: it was answered with brake, and the train moves
       pub pending_on : ((then (Report r)).authority.goal ≡ (then (Report r)).authority.end → ⊥)
@@ -189,7 +187,7 @@ module _ (o : Opening) (t : Table) (opened : open_step o ≡ outcome (Accepted Z
 -- ---- how long one is pending
 
 -- no act but a report touches motion and order
-braking_act : (ceiling n : ℕ) (σ : Settings) (limit : Limit) (x : Train) (a : Act) → ((r : Reading) → a ≡ Report r → ⊥)
+braking_act : (ceiling n : ℕ) (σ : Settings) (limit : Option ℕ) (x : Train) (a : Act) → ((r : Reading) → a ≡ Report r → ⊥)
     → Braking ceiling n x → Braking ceiling n (decide σ limit x a).after
 unfolding extended called_back
 braking_act ceiling zero σ limit x a other brakes = tt
@@ -226,7 +224,7 @@ follows t before u d is = ap (λ (w : Table). (done w d).table) is ∙ sym (afte
 abbrev event_of : Table → Deed → Event
 event_of u d = record { deed = d; answer = numbers_of (done u d).answer }
 
-module _ (o : Opening) (t : Table) (opened : open_step o ≡ outcome (Accepted Zeros) t) (id : ℕ) where
+module _ (o : Opening) (t : Table) (opened : open_step o ≡ outcome (Ok Zeros) t) (id : ℕ) where
   -- a deed that is no accepted report of the train leaves what its reports have come to
   abbrev Another : ℕ → Deed → Table → Type 0
   Another n d u =
@@ -296,7 +294,7 @@ module _ (o : Opening) (t : Table) (opened : open_step o ≡ outcome (Accepted Z
       → let now = after t before in
       let then = after now since in
       Waiting id now → Waits id now since → (n : ℕ) → Reports id n (history now since)
-      → (i p q : ℕ) → place_of then id ≡ some i → RoundedUp p (train_at then i).figures.full (train_at then i).figures.growth
+      → (i p q : ℕ) → place_of then id ≡ Some i → RoundedUp p (train_at then i).figures.full (train_at then i).figures.growth
       → RoundedUp q o.ceiling (train_at then i).figures.full → n < 1 + p + q
   unfolding stands
   pending_ends before since waiting waits n reports i p q there growing slowing =
@@ -316,7 +314,7 @@ module _ (o : Opening) (t : Table) (opened : open_step o ≡ outcome (Accepted Z
 
       sound : Sound x.figures
       sound =
-          subst (λ (u : Table). place_of u id ≡ some i → Sound (train_at u i).figures) (after_both t before since)
+          subst (λ (u : Table). place_of u id ≡ Some i → Sound (train_at u i).figures) (after_both t before since)
           (λ found. (track o t opened (before ++ since) i (found_below _ id i found)).guarded.figures) there
 
       go : (n : ℕ) → Braking o.ceiling n x → n < 1 + p + q

@@ -1,16 +1,15 @@
 -- Demand 3, said a second time: what the claim comes to for the trains that a history tells of, in numbers and fields alone; and what each
 -- accepted act tells of its train. A claim that is weaker, or words that tell less, are refused here for every number.
 -- Assumes nothing.
+use Rattle.std.specs.Prelude.{Option, None, Some, is_some, Ok}
 use Prim.Native.Nat.{ℕ, ◌+◌, ◌*◌, ◌≤◌, ◌<◌}
 use mathlib.Core.List.{List, [], ◌∷◌, ◌++◌, map}
-use mathlib.Core.Option.{Option, none, some}
 use mathlib.Core.Path.{◌≡◌, refl, subst, ap, ◌∙◌}
 use native.Mathlib.Numerals.{add-one}
 use native.Mathlib.Omega.{arith}
 use lib.Dec.{eqb}
 use lib.ListN.{length, get_or, length-append}
 use borrow.Author.Tests.{eq-eqb, ne_eqb, eqb-true}
-use Rattle.logic.specs.Options.{is_some}
 use Rattle.logic.proofs.Tests.{by_test}
 use Rattle.logic.proofs.Rounding.{RoundedUp}
 use Rattle.brake.specs.declared.Figures.{Figures}
@@ -25,7 +24,6 @@ use Rattle.calls.specs.declared.Reading.{Reading}
 use Rattle.calls.specs.declared.Extension.{Extension}
 use Rattle.calls.specs.declared.Act.TheVariants.{Report, Extend, CallBack, Hold, Lift}
 use Rattle.calls.specs.declared.Numbers.{Numbers}
-use Rattle.calls.specs.declared.Answer.TheVariants.{Accepted}
 use Rattle.calls.specs.declared.Values.TheVariants.{Zeros}
 use Rattle.train.specs.declared.Train.{Train}
 use Rattle.train.specs.Track.{steps_of}
@@ -64,21 +62,21 @@ pub record Plainly (o : Opening) (xs : List Told) : Type 0 where
       → x.now.last.head + 6096000 * a.entry.length ≤ a.now.last.head
   -- "a train held ... stands once it has had as many accepted reports since the hold as document 01 counts"
   pub held : (ahead : List Told) (x : Told) (others : List Told) → xs ≡ ahead ++ (x ∷ others) → (p q n : ℕ) → RoundedUp p x.figures.full x.figures.growth
-      → RoundedUp q o.ceiling x.figures.full → x.now.counts.held ≡ some n → 1 + p + q ≤ n → x.now.last.speed ≡ 0
+      → RoundedUp q o.ceiling x.figures.full → x.now.counts.held ≡ Some n → 1 + p + q ≤ n → x.now.last.speed ≡ 0
   -- "any train braked while moving, held or not, now stands within the reports counted in document 01"
   pub braked : (ahead : List Told) (x : Told) (others : List Told) → xs ≡ ahead ++ (x ∷ others) → (p q n : ℕ) → RoundedUp p x.figures.full x.figures.growth
-      → RoundedUp q o.ceiling x.figures.full → x.now.counts.braked ≡ some n → 1 + p + q ≤ n → x.now.last.speed ≡ 0
+      → RoundedUp q o.ceiling x.figures.full → x.now.counts.braked ≡ Some n → 1 + p + q ≤ n → x.now.last.speed ≡ 0
 
 module _ (o : Opening) where
   -- the claim's parts for the train x, whatever is ahead of it
   record At (x : Told) (others : List Told) : Type 0 where
     alone : Alone o x
     clear : Clear x others
-    behind : Safe o (some x) others
+    behind : Safe o (Some x) others
 
   at : (before : Option Told) (ahead : List Told) (x : Told) (others : List Told) → Safe o before (ahead ++ (x ∷ others)) → At x others
   at before [] x others safe = record { alone = safe.0; clear = safe.2; behind = safe.3 }
-  at before (a ∷ ahead) x others safe = at (some a) ahead x others safe.3
+  at before (a ∷ ahead) x others safe = at (Some a) ahead x others safe.3
 
   clear_at : (a : Told) (between : List Told) (x : Told) (others : List Told) → Clear a (between ++ (x ∷ others)) → x.now.last.head ≤ rear_of a
   clear_at a [] x others clear = clear.0
@@ -91,7 +89,7 @@ module _ (o : Opening) where
       let count = count_exactly o x p q (given_sound _ _ x.figures alone.consist) growing slowing in
       eqb-true _ _ (stands-then (omega arith))
 
-  plainly : (xs : List Told) → Safe o none xs → Plainly o xs
+  plainly : (xs : List Told) → Safe o None xs → Plainly o xs
   unfolding rear_of steps_of
   plainly xs safe =
       record {
@@ -104,7 +102,7 @@ module _ (o : Opening) where
             let rear = first.alone.rear_on_line in
             let apart = first.behind.1 in
             omega arith;
-        first_end = λ x others e. (subst (Safe o none) e safe).1;
+        first_end = λ x others e. (subst (Safe o None) e safe).1;
         apart =
             λ ahead a between x others e.
             let first = there ahead a (between ++ (x ∷ others)) e in
@@ -116,7 +114,7 @@ module _ (o : Opening) where
       }
     where
       there : (ahead : List Told) (x : Told) (others : List Told) → xs ≡ ahead ++ (x ∷ others) → At x others
-      there ahead x others e = at none ahead x others (subst (Safe o none) e safe)
+      there ahead x others e = at None ahead x others (subst (Safe o None) e safe)
 
 -- "the table after the list agrees with them": with the settings that o opened, and with a record for each of the trains xs
 pub record TableOf (o : Opening) (xs : List Told) (t : Table) : Type 0 where
@@ -168,48 +166,48 @@ module _ (o : Opening) (t : Table) (ds : List Deed) (d : Demand3 o t ds) where
       }
 
 -- after every list of deeds on the table that an accepted opening made
-pub demand_3_plainly : (o : Opening) (t : Table) → open_step o ≡ outcome (Accepted Zeros) t → (ds : List Deed)
+pub demand_3_plainly : (o : Opening) (t : Table) → open_step o ≡ outcome (Ok Zeros) t → (ds : List Deed)
     → let xs = (told o (history t ds)).trains in Plainly o xs × TableOf o xs (after t ds)
 demand_3_plainly o t opened ds = let d = demand_3 o t opened ds in (claimed o t ds d, tabled o t ds d)
 
 -- ---- what is counted
 
 -- an entering train has no count
-pub none_counted : (e : Entry) (n : Numbers) → (told_entering e n).now.counts ≡ record { held = none; braked = none }
+pub none_counted : (e : Entry) (n : Numbers) → (told_entering e n).now.counts ≡ record { held = None; braked = None }
 none_counted e n = refl
 
 module _ (k : Figures) (s : State) (n : Numbers) where
   -- "Its accepted reports are counted from the first such hold": each report counts one more, and no other hold begins anew
-  pub held_begins : s.counts.held ≡ none → (told_act k s n Hold).counts.held ≡ some 0
+  pub held_begins : s.counts.held ≡ None → (told_act k s n Hold).counts.held ≡ Some 0
   unfolding told_act
   held_begins free = rw free
 
-  pub held_again : (m : ℕ) → s.counts.held ≡ some m → (told_act k s n Hold).counts.held ≡ some m
+  pub held_again : (m : ℕ) → s.counts.held ≡ Some m → (told_act k s n Hold).counts.held ≡ Some m
   unfolding told_act
   held_again m held = rw held
 
-  pub held_counts : (r : Reading) (m : ℕ) → s.counts.held ≡ some m → (told_act k s n (Report r)).counts.held ≡ some (m + 1)
+  pub held_counts : (r : Reading) (m : ℕ) → s.counts.held ≡ Some m → (told_act k s n (Report r)).counts.held ≡ Some (m + 1)
   unfolding told_act
   held_counts r m held = rw (held, add-one m)
 
   -- "with no accepted lift of the train afterwards"
-  pub held_lifted : (told_act k s n Lift).counts.held ≡ none
+  pub held_lifted : (told_act k s n Lift).counts.held ≡ None
   unfolding told_act
   held_lifted = refl
 
   -- "any train braked while moving": the report "that ordered it being the first", and each after it counts, until one with speed 0
-  pub braked_begins : (r : Reading) → 0 < r.speed → n.first ≡ 2 → s.counts.braked ≡ none → (told_act k s n (Report r)).counts.braked ≡ some 1
+  pub braked_begins : (r : Reading) → 0 < r.speed → n.first ≡ 2 → s.counts.braked ≡ None → (told_act k s n (Report r)).counts.braked ≡ Some 1
   unfolding told_act stands
   braked_begins r moving brake none_yet = rw (ne_eqb r.speed 0 (λ e. omega arith), ne_eqb n.first 1 (λ e. omega arith), none_yet)
 
-  pub braked_counts : (r : Reading) (m : ℕ) → 0 < r.speed → s.counts.braked ≡ some m → (told_act k s n (Report r)).counts.braked ≡ some (m + 1)
+  pub braked_counts : (r : Reading) (m : ℕ) → 0 < r.speed → s.counts.braked ≡ Some m → (told_act k s n (Report r)).counts.braked ≡ Some (m + 1)
   unfolding told_act stands
   braked_counts r m moving braked =
       by_test (eqb n.first 1)
       (λ drive. rw (ne_eqb r.speed 0 (λ e. omega arith), drive, braked, add-one m))
       (λ brake. rw (ne_eqb r.speed 0 (λ e. omega arith), brake, braked, add-one m))
 
-  pub braked_stood : (r : Reading) → r.speed ≡ 0 → (told_act k s n (Report r)).counts.braked ≡ none
+  pub braked_stood : (r : Reading) → r.speed ≡ 0 → (told_act k s n (Report r)).counts.braked ≡ None
   unfolding told_act stands
   braked_stood r standing = rw (eq-eqb r.speed 0 standing)
 

@@ -1,7 +1,7 @@
 -- The invariant of a table under what the history tells, and how to read the table by the trains told.
 -- Assumes nothing.
+use Rattle.std.specs.Prelude.{None, Some, Option}
 use Prim.Native.Nat.{ℕ, zero, suc, ◌≤◌, ◌<◌}
-use mathlib.Core.Option.{none, some}
 use mathlib.Core.List.{List, [], ◌∷◌, map}
 use mathlib.Core.Path.{◌≡◌, refl, sym, ◌∙◌, ap, subst}
 use native.Mathlib.Omega.{arith}
@@ -9,7 +9,6 @@ use lib.ListN.{length, get_or, length-map}
 use Rattle.calls.specs.declared.Opening.{Opening}
 use Rattle.train.specs.declared.Settings.{Settings}
 use Rattle.train.specs.declared.Train.{Train}
-use Rattle.train.specs.declared.Limit.{Limit}
 use Rattle.train.specs.Ranges.{WorksWith}
 use Rattle.train.specs.Track.{limit_behind}
 use Rattle.table.specs.declared.Table.{Table}
@@ -28,8 +27,8 @@ pub record Agrees (o : Opening) (l : Line) (t : Table) : Type 0 where
   pub trains : on_line t ≡ map record_of l.trains
   pub lined : Lined t.settings (first_limit t.settings) l.trains
 
-limit_next : (σ : Settings) (limit : Limit) (xs : List Told) (i : ℕ) → i < length xs
-    → limit_behind σ (some (get_or (map record_of xs) i blank_train)) ≡ limit_in σ limit xs (suc i)
+limit_next : (σ : Settings) (limit : Option ℕ) (xs : List Told) (i : ℕ) → i < length xs
+    → limit_behind σ (Some (get_or (map record_of xs) i blank_train)) ≡ limit_in σ limit xs (suc i)
 limit_next σ limit [] i h = absurd (omega arith)
 limit_next σ limit (x ∷ xs) zero h = refl
 limit_next σ limit (x ∷ xs) (suc i) h = limit_next σ (behind σ x) xs i (omega arith)
@@ -49,13 +48,13 @@ module _ (o : Opening) (l : Line) (t : Table) (A : Agrees o l t) where
   agrees_limit zero h = refl
   agrees_limit (suc i) h =
       let count = agrees_count in
-      ap (λ (x : Train). limit_behind t.settings (some x)) (agrees_train i h) ∙ limit_next t.settings _ xs i (omega arith)
+      ap (λ (x : Train). limit_behind t.settings (Some x)) (agrees_train i h) ∙ limit_next t.settings _ xs i (omega arith)
 
-  pub agrees_absent : (id : ℕ) → place_of t id ≡ none → Absent id xs
+  pub agrees_absent : (id : ℕ) → place_of t id ≡ None → Absent id xs
   unfolding place_of
   agrees_absent id e = missing id xs 0 (rw A.trains at e)
 
-  pub agrees_place : (id i : ℕ) → place_of t id ≡ some i → IsAt id xs i
+  pub agrees_place : (id i : ℕ) → place_of t id ≡ Some i → IsAt id xs i
   unfolding place_of
   agrees_place id i e =
       let (j, same, place) = found id xs 0 i (rw A.trains at e) in

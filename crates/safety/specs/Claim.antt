@@ -1,9 +1,6 @@
 -- Demand 3: what is claimed of a history on the line that an opening o made, in the opening's own numbers; and the table that a history
 -- tells of.
-use Rattle.std.specs.Prelude.{ℕ, ◌+◌, ◌≤◌, ◌≡◌, true, List, [], ◌∷◌, map, length}
-use Rattle.std.proofs.Math.Option.{Option, none, some}
-use Rattle.logic.specs.Options.{is_some}
-use Rattle.brake.specs.declared.FiguresFound.TheVariants.{Given}
+use Rattle.std.specs.Prelude.{ℕ, ◌+◌, ◌≤◌, ◌≡◌, true, List, [], ◌∷◌, map, length, Option, None, Some, is_some}
 use Rattle.brake.specs.Consist.{figures_of}
 use Rattle.motion.specs.Motion.{stands}
 use Rattle.motion.specs.Count.{cycles_to_stand}
@@ -26,16 +23,16 @@ Stands x = stands x.figures x.now.last.speed x.now.level ≡ true
 -- of each train by itself: its figures are those of its load class and length, its rear is on the line, its head is at or before its end,
 -- and with so many reports it stands: held, or braked while moving, held or not. A stand ends the second count, so it never gets that far.
 pub record Alone (o : Opening) (x : Told) : Type 0 where
-  pub consist : figures_of x.entry.load x.entry.length ≡ Given x.figures
+  pub consist : figures_of x.entry.load x.entry.length ≡ Some x.figures
   pub rear_on_line : steps_of x.entry.length ≤ x.now.last.head
   pub head_within_end : x.now.last.head ≤ x.now.authority.end
-  pub held_stands : (n : ℕ) → x.now.counts.held ≡ some n → counted_reports o x ≤ n → Stands x
-  pub braked_stands : (n : ℕ) → x.now.counts.braked ≡ some n → counted_reports o x ≤ n → Stands x
+  pub held_stands : (n : ℕ) → x.now.counts.held ≡ Some n → counted_reports o x ≤ n → Stands x
+  pub braked_stands : (n : ℕ) → x.now.counts.braked ≡ Some n → counted_reports o x ≤ n → Stands x
 
 -- its end lies at least the safety distance behind the rear ahead; that of the first train is at most the line end
 abbrev pub Separate : Opening → Option Told → Told → Type 0
-Separate o none x = x.now.authority.end ≤ o.end
-Separate o (some ahead) x = x.now.authority.end + o.safety ≤ rear_of ahead
+Separate o None x = x.now.authority.end ≤ o.end
+Separate o (Some ahead) x = x.now.authority.end + o.safety ≤ rear_of ahead
 
 -- no train that entered later overlaps it: none has its head beyond its rear
 abbrev pub Clear : Told → List Told → Type 0
@@ -45,10 +42,10 @@ Clear a (x ∷ xs) = (x.now.last.head ≤ rear_of a) × Clear a xs
 -- of all trains, behind `ahead`
 abbrev pub Safe : Opening → Option Told → List Told → Type 0
 Safe o ahead [] = Unit {0}
-Safe o ahead (x ∷ xs) = Alone o x × Separate o ahead x × Clear x xs × Safe o (some x) xs
+Safe o ahead (x ∷ xs) = Alone o x × Separate o ahead x × Clear x xs × Safe o (Some x) xs
 
 unfoldable pub Claim : Opening → List Event → Type 0
-Claim o es = Safe o none (told o es).trains
+Claim o es = Safe o None (told o es).trains
 
 -- ---- the table that a history tells of
 

@@ -1,7 +1,5 @@
 -- Document 01, "Authorities", and document 02, (ii) and (vi): the words of demand 3. They come from the opening, the calls and their answers alone.
-use Rattle.std.specs.Prelude.{ℕ, suc, ◌+◌, ◌-◌, Bool, true, false, cond, ◌&&◌, leb, ltb, eqb}
-use Rattle.std.proofs.Math.Option
-use Rattle.std.proofs.Math.Option.{Option, none, some, get_or}
+use Rattle.std.specs.Prelude.{ℕ, suc, ◌+◌, ◌-◌, Bool, true, false, cond, ◌&&◌, leb, ltb, eqb, Option, None, Some, option_map, unwrap_or}
 use mathlib.Core.List.{List, [], ◌∷◌, ◌++◌, map, foldl}
 use Rattle.brake.specs.declared.Figures.{Figures}
 use Rattle.motion.specs.declared.Order.{Order}
@@ -67,7 +65,7 @@ pub record Counts : Type 0 where
 
 -- not held, and not braked while moving
 abbrev pub fresh_counts : Counts
-fresh_counts = record { held = none; braked = none }
+fresh_counts = record { held = None; braked = None }
 
 -- what its entering and its accepted acts since tell of it by now
 pub record State : Type 0 where
@@ -111,9 +109,9 @@ order_in r = cond (eqb r.first 1) (Drive r.second) Brake
 -- A report with which the train stands ends the count of those braked while moving; brake to a moving train begins it. Until it stands each
 -- report counts, whatever its answer and whatever is called meanwhile.
 abbrev pub braked_after : Bool → Order → Option ℕ → Option ℕ
-braked_after true o n = none
-braked_after false Brake n = some (suc (get_or n 0))
-braked_after false (Drive c) n = Option.map suc n
+braked_after true o n = None
+braked_after false Brake n = Some (suc (unwrap_or n 0))
+braked_after false (Drive c) n = option_map suc n
 
 -- a new number adds its length, and the last one again adds none
 abbrev pub longer : Authority → Extension → Authority
@@ -142,13 +140,13 @@ unfoldable pub told_act : Figures → State → Numbers → Act → State
 told_act k s n (Report r) =
     let level = level_after k s.order s.level in
     state_of r level (order_in n) (done_by n.third (stands k r.speed level) r.head s.authority)
-    (record { held = Option.map suc s.counts.held; braked = braked_after (stands k r.speed level) (order_in n) s.counts.braked })
+    (record { held = option_map suc s.counts.held; braked = braked_after (stands k r.speed level) (order_in n) s.counts.braked })
 told_act k s n (Extend q) = still s (longer s.authority q) s.counts
 told_act k s n (CallBack p) =
     still s (nearer (reach k (record { head = s.last.head; speed = s.last.speed; level = s.level }) s.order) p s.authority) s.counts
 -- held already, it goes on counting
-told_act k s n Hold = still s s.authority (record { held = some (get_or s.counts.held 0); braked = s.counts.braked })
-told_act k s n Lift = still s s.authority (record { held = none; braked = s.counts.braked })
+told_act k s n Hold = still s s.authority (record { held = Some (unwrap_or s.counts.held 0); braked = s.counts.braked })
+told_act k s n Lift = still s s.authority (record { held = None; braked = s.counts.braked })
 
 -- ---- the line, and the trains on it
 

@@ -1,7 +1,6 @@
 -- Worked examples: lists of deeds for the words of demand 3 (proofs/Worked: worked), and histories that no controller may have, since the
 -- claim does not hold of them (proofs/Refuted).
-use Rattle.std.specs.Prelude.{ℕ, List, [], ◌∷◌, map, replicate}
-use Rattle.std.proofs.Math.Option.{Option, none, some}
+use Rattle.std.specs.Prelude.{ℕ, List, [], ◌∷◌, map, replicate, Option, None, Some}
 use Rattle.calls.specs.declared.Opening.{Opening}
 use Rattle.calls.specs.declared.Act.TheVariants.{Report, Extend, CallBack, Hold, Lift}
 use Rattle.calls.specs.declared.Call.TheVariants.{Enter, Own, TakeOff}
@@ -164,12 +163,12 @@ words_after o ds = map words_of (told o (history (open_step o).table ds)).trains
 -- a train that has entered and is held
 abbrev pub tried_words : List Words
 tried_words =
-    record { id = 7; start = 0; head = 14295120000; speed = 0; rear = 0; end = 14295120000; goal = 14295120000; held = some 0; braked = none } ∷ []
+    record { id = 7; start = 0; head = 14295120000; speed = 0; rear = 0; end = 14295120000; goal = 14295120000; held = Some 0; braked = None } ∷ []
 
 abbrev pub worked_words : List Words
 worked_words =
-    record { id = 7; start = 5; head = 24295131000; speed = 3000; rear = 10000011000; end = 25295120001; goal = 25295120001; held = none; braked = some 2 }
-    ∷ record { id = 9; start = 0; head = 1000003726; speed = 0; rear = 390403726; end = 1100000500; goal = 1100000500; held = some 2; braked = none }
+    record { id = 7; start = 5; head = 24295131000; speed = 3000; rear = 10000011000; end = 25295120001; goal = 25295120001; held = None; braked = Some 2 }
+    ∷ record { id = 9; start = 0; head = 1000003726; speed = 0; rear = 390403726; end = 1100000500; goal = 1100000500; held = Some 2; braked = None }
     ∷ []
 
 -- ---- pending call backs
@@ -217,7 +216,7 @@ replaced_answers =
 
 abbrev pub replaced_words : List Words
 replaced_words =
-    record { id = 7; start = 0; head = 14295120010; speed = 10; rear = 10; end = 14295121000; goal = 14295120030; held = none; braked = some 1 } ∷ []
+    record { id = 7; start = 0; head = 14295120010; speed = 10; rear = 10; end = 14295121000; goal = 14295120030; held = None; braked = Some 1 } ∷ []
 
 -- a little slower, it would stop short of the place: the end moves there, and one step more is lent
 abbrev pub there_deeds : List Deed
@@ -225,7 +224,7 @@ there_deeds = made (report 7 14295120020 9) ∷ made (extend 7 2 1) ∷ []
 
 abbrev pub there_words : List Words
 there_words =
-    record { id = 7; start = 0; head = 14295120020; speed = 9; rear = 20; end = 14295120031; goal = 14295120031; held = none; braked = some 2 } ∷ []
+    record { id = 7; start = 0; head = 14295120020; speed = 9; rear = 20; end = 14295120031; goal = 14295120031; held = None; braked = Some 2 } ∷ []
 
 -- The worst case on, to a stand past the place. That report is answered against the place still, and the end becomes the head; at the next one the
 -- train stands at its end.
@@ -237,7 +236,7 @@ past_answers = numbers 0 2 0 14295120031 ∷ numbers 0 2 0 14295120031 ∷ numbe
 
 abbrev pub past_words : List Words
 past_words =
-    record { id = 7; start = 0; head = 14295120031; speed = 0; rear = 31; end = 14295120031; goal = 14295120031; held = none; braked = none } ∷ []
+    record { id = 7; start = 0; head = 14295120031; speed = 0; rear = 31; end = 14295120031; goal = 14295120031; held = None; braked = None } ∷ []
 
 -- ---- the count of document 01's example, and histories that break the claim
 

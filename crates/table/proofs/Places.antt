@@ -1,18 +1,16 @@
 -- Laws of the places of a table: where a train is found.
 -- Assumes nothing.
+use Rattle.std.specs.Prelude.{Option, None, Some, is_some}
 use Prim.Native.Nat.{ℕ, zero, suc, ◌+◌, ◌≤◌, ◌<◌}
 use mathlib.Core.Bool.{false}
 use mathlib.Core.List.{List, [], ◌∷◌}
-use mathlib.Core.Option.{Option, none, some}
 use mathlib.Core.Path.{◌≡◌, refl, sym, ap, ◌∙◌}
 use native.Mathlib.Omega.{arith}
 use lib.Dec.{eqb}
 use lib.ListN.{length, get_or, set, length-take}
 use lib.Seq.{get_or-take, get_or-set_same, set-get_or, take-set-lt}
-use Rattle.logic.specs.Options.{is_some}
 use Rattle.logic.proofs.Tests.{by_test}
 use Rattle.train.specs.declared.Train.{Train}
-use Rattle.train.specs.declared.Limit.{Limit}
 use Rattle.table.specs.declared.Table.{Table}
 use Rattle.table.specs.declared.Change.TheVariants.{Put}
 use Rattle.table.specs.Table.{blank_train, on_line, place_in, place_of, train_at, limit_at, changed}
@@ -20,12 +18,12 @@ use Rattle.table.specs.Table.{blank_train, on_line, place_in, place_of, train_at
 -- ---- what was found
 
 abbrev Among : ℕ → ℕ → Option ℕ → Type 0
-Among first past (some i) = (first ≤ i) × (i < past)
-Among first past none = Unit {0}
+Among first past (Some i) = (first ≤ i) × (i < past)
+Among first past None = Unit {0}
 
 wider : (first past : ℕ) (f : Option ℕ) → Among (suc first) past f → Among first past f
-wider first past (some i) h = (omega arith, h.1)
-wider first past none h = tt
+wider first past (Some i) h = (omega arith, h.1)
+wider first past None h = tt
 
 place_among : (xs : List Train) (id i : ℕ) → Among i (i + length xs) (place_in xs id i)
 unfolding place_in
@@ -38,25 +36,25 @@ place_among (x ∷ xs) id i =
     rw (e, place_in, same) (wider i (suc i + length xs) (place_in xs id (suc i)) (place_among xs id (suc i))))
 
 -- a train that was found is on the line
-pub found_among : (t : Table) (id i : ℕ) → place_of t id ≡ some i → i < length (on_line t)
+pub found_among : (t : Table) (id i : ℕ) → place_of t id ≡ Some i → i < length (on_line t)
 unfolding place_of
 found_among t id i e =
-    let h : Among 0 (0 + length (on_line t)) (some i) = rw e at (place_among (on_line t) id 0) in
+    let h : Among 0 (0 + length (on_line t)) (Some i) = rw e at (place_among (on_line t) id 0) in
     omega (arith, h.1)
 
-pub found_below : (t : Table) (id i : ℕ) → place_of t id ≡ some i → i < t.count
+pub found_below : (t : Table) (id i : ℕ) → place_of t id ≡ Some i → i < t.count
 found_below t id i e =
     let h = found_among t id i e in
     let n = length-take t.count t.trains in
     omega arith
 
-pub not_found : (f : Option ℕ) → is_some f ≡ false → f ≡ none
-not_found (some i) e = let z : ◌≡◌ {A = ℕ} 0 1 = cc in absurd (omega arith)
-not_found none e = refl
+pub not_found : (f : Option ℕ) → is_some f ≡ false → f ≡ None
+not_found (Some i) e = let z : ◌≡◌ {A = ℕ} 0 1 = cc in absurd (omega arith)
+not_found None e = refl
 
 -- place, limit and record of a train that was found
-pub record FoundAt (t : Table) (o : Option ℕ) (i : ℕ) (limit : Limit) (x : Train) : Type 0 where
-  pub place : o ≡ some i
+pub record FoundAt (t : Table) (o : Option ℕ) (i : ℕ) (limit : Option ℕ) (x : Train) : Type 0 where
+  pub place : o ≡ Some i
   pub limited : limit ≡ limit_at t i
   pub here : x ≡ train_at t i
 
@@ -78,7 +76,7 @@ still_found t i y below same id =
     rw (take-set-lt t.count t.trains i y below) (place_same (on_line t) i id 0 y here)
 
 -- and what was put at its place stands there
-pub still_there : (t : Table) (id i : ℕ) (y : Train) → place_of t id ≡ some i → train_at (changed t (Put i y)) i ≡ y
+pub still_there : (t : Table) (id i : ℕ) (y : Train) → place_of t id ≡ Some i → train_at (changed t (Put i y)) i ≡ y
 still_there t id i y found =
     let below = found_among t id i found in
     let size = length-take t.count t.trains in

@@ -1,10 +1,10 @@
 -- Which train an id names, what a change leaves at each place, and the limit there, said a second time: in places, ids and sums.
 -- Assumes nothing.
+use Rattle.std.specs.Prelude.{Option, None, Some}
 use Prim.Native.Nat.{ℕ, suc, ◌+◌, ◌-◌, ◌*◌, ◌≤◌, ◌<◌}
 use mathlib.Core.Bool.{false}
 use mathlib.Core.List.{List}
 use mathlib.Core.Logic.{by_cases, ◌↔◌}
-use mathlib.Core.Option.{Option, none, some}
 use mathlib.Core.Path.{◌≡◌, refl, sym, ap, ◌∙◌, subst}
 use native.Mathlib.Decide.{dec_lt}
 use native.Mathlib.Omega.{arith}
@@ -56,7 +56,7 @@ module _ (t : Table) (sized : Sized t) (id : ℕ) where
   here_on_line : (j : ℕ) → j < t.count → id_at (on_line t) j ≡ (train_at t j).id
   here_on_line j below = ap (λ (x : Train). x.id) (sym (train_on_line t j below))
 
-  first_with : (i : ℕ) → place_of t id ≡ some i → FirstWith i
+  first_with : (i : ℕ) → place_of t id ≡ Some i → FirstWith i
   unfolding place_of
   first_with i e =
       let (j, place, below, here, first) = subst (Seen (on_line t) id 0) e (seen (on_line t) id 0) in
@@ -69,7 +69,7 @@ module _ (t : Table) (sized : Sized t) (id : ℕ) where
         none_ahead = λ m before e. first m (omega arith) (here_on_line m (omega arith) ∙ e);
       }
 
-  without : place_of t id ≡ none → Without
+  without : place_of t id ≡ None → Without
   unfolding place_of
   without e j below here =
       let all = line_length t sized in
@@ -81,19 +81,19 @@ module _ (t : Table) (sized : Sized t) (id : ℕ) where
       (λ h. absurd (b.none_ahead i h a.here))
       (λ h. by_cases (dec_lt j i) (λ k. absurd (a.none_ahead j k b.here)) (λ k. omega arith))
 
-  pub found_exactly : (i : ℕ) → (place_of t id ≡ some i) ↔ FirstWith i
+  pub found_exactly : (i : ℕ) → (place_of t id ≡ Some i) ↔ FirstWith i
   found_exactly i = (first_with i, λ a. go a (place_of t id) refl)
     where
-      go : FirstWith i → (f : Option ℕ) → place_of t id ≡ f → f ≡ some i
-      go a none e = absurd (without e i a.below a.here)
-      go a (some j) e = ap (λ (n : ℕ). some n) (one_first j i (first_with j e) a)
+      go : FirstWith i → (f : Option ℕ) → place_of t id ≡ f → f ≡ Some i
+      go a None e = absurd (without e i a.below a.here)
+      go a (Some j) e = ap (λ (n : ℕ). Some n) (one_first j i (first_with j e) a)
 
-  pub absent_exactly : (place_of t id ≡ none) ↔ Without
+  pub absent_exactly : (place_of t id ≡ None) ↔ Without
   absent_exactly = (without, λ h. go h (place_of t id) refl)
     where
-      go : Without → (f : Option ℕ) → place_of t id ≡ f → f ≡ none
-      go h none e = refl
-      go h (some i) e = let a = first_with i e in absurd (h i a.below a.here)
+      go : Without → (f : Option ℕ) → place_of t id ≡ f → f ≡ None
+      go h None e = refl
+      go h (Some i) e = let a = first_with i e in absurd (h i a.below a.here)
 
 -- ---- what a change leaves at each place, how many trains, and with which settings
 

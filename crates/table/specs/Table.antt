@@ -1,10 +1,8 @@
 -- The table of trains: 32 places, of which the first `count` hold the trains on the line, front train first.
-use Rattle.std.specs.Prelude.{ℕ, zero, suc, ◌+◌, ◌-◌, ◌<◌, cond, List, [], ◌∷◌, ◌++◌, eqb, get_or, set, take, drop, replicate}
-use Rattle.std.proofs.Math.Option.{Option, none, some}
+use Rattle.std.specs.Prelude.{ℕ, zero, suc, ◌+◌, ◌-◌, ◌<◌, cond, List, [], ◌∷◌, ◌++◌, eqb, get_or, set, take, drop, replicate, Option, None, Some}
 use Rattle.motion.specs.declared.Order.TheVariants.{Drive}
 use Rattle.train.specs.declared.Settings.{Settings}
 use Rattle.train.specs.declared.Train.{Train}
-use Rattle.train.specs.declared.Limit.{Limit}
 use Rattle.train.specs.Ranges.{settings_of}
 use Rattle.train.specs.Record.{train_of, fresh_authority, fresh_marks}
 use Rattle.train.specs.Track.{limit_behind}
@@ -30,8 +28,8 @@ on_line t = take t.count t.trains
 
 -- the place of the train with this id, in a list whose first train is at place i
 unfoldable pub place_in : List Train → ℕ → ℕ → Option ℕ
-place_in [] id i = none
-place_in (x ∷ xs) id i = cond (eqb x.id id) (some i) (place_in xs id (suc i))
+place_in [] id i = None
+place_in (x ∷ xs) id i = cond (eqb x.id id) (Some i) (place_in xs id (suc i))
 
 unfoldable pub place_of : Table → ℕ → Option ℕ
 place_of t id = place_in (on_line t) id 0
@@ -41,11 +39,11 @@ train_at t i = get_or t.trains i blank_train
 
 -- the train ahead of place i
 unfoldable pub ahead_of : Table → ℕ → Option Train
-ahead_of t zero = none
-ahead_of t (suc i) = some (train_at t i)
+ahead_of t zero = None
+ahead_of t (suc i) = Some (train_at t i)
 
 -- the limit of the train at place i
-abbrev pub limit_at : Table → ℕ → Limit
+abbrev pub limit_at : Table → ℕ → Option ℕ
 limit_at t i = limit_behind t.settings (ahead_of t i)
 
 -- the table after a change

@@ -1,10 +1,10 @@
 -- The places of a table, as the code walks them: the search for a train, and how the others move up.
 -- Assumes nothing.
+use Rattle.std.specs.Prelude.{Option, None, Some}
 use Prim.Native.Nat.{ℕ, zero, suc, min, ◌+◌, ◌-◌, ◌≤◌, ◌<◌}
 use mathlib.Core.List.{List, [], ◌∷◌, ◌++◌, map}
 use mathlib.Core.Logic.{◌⊎◌, inl, inr, ⊎_elim, by_cases}
 use native.Mathlib.Decide.{dec_le}
-use mathlib.Core.Option.{Option, none, some}
 use mathlib.Core.Path.{◌≡◌, refl, sym, ap, ◌∙◌}
 use native.Mathlib.Numerals.{add-one}
 use native.Mathlib.Omega.{arith}
@@ -12,7 +12,6 @@ use lib.ListN.{length, take, drop, get_or, set, length-append, length-take, leng
 use lib.Seq.{drop-cons, get_or-take, get_or-drop, get_or-append-add, take-nil, take-suc, take_all, set_at, append_snoc, length-take-le}
 use borrow.Author.Tests.{eq-eqb, ne_eqb}
 use Rattle.train.specs.declared.Train.{Train}
-use Rattle.train.specs.declared.Limit.{Limit}
 use Rattle.table.specs.declared.Table.{Table}
 use Rattle.table_code.specs.declared.Found.TheVariants.{At, Nothing}
 use Rattle.table.specs.declared.Change.TheVariants.{DropFirst}
@@ -27,7 +26,7 @@ long X f l n e = sym (length-map l f) ∙ e
 -- ---- the search, from place i on
 
 module _ (t : Table) (id i : ℕ) (size : length t.trains ≡ 32) where
-  pub find_end : (t.count ≤ i) ⊎ (32 ≤ i) → place_in (drop i (on_line t)) id i ≡ none
+  pub find_end : (t.count ≤ i) ⊎ (32 ≤ i) → place_in (drop i (on_line t)) id i ≡ None
   unfolding place_in
   find_end h =
       let past : length (on_line t) ≤ i = simp length-take (⊎_elim (λ a. omega arith) (λ a. omega arith) h) in
@@ -39,7 +38,7 @@ module _ (t : Table) (id i : ℕ) (size : length t.trains ≡ 32) where
         let h : i < length (on_line t) = simp length-take (omega arith) in
         drop-cons (on_line t) i blank_train h ∙ (rw (get_or-take t.count t.trains i blank_train a, add-one))
 
-    pub find_here : (train_at t i).id ≡ id → place_in (drop i (on_line t)) id i ≡ some i
+    pub find_here : (train_at t i).id ≡ id → place_in (drop i (on_line t)) id i ≡ Some i
     unfolding place_in
     find_here e = rw (from_place, eq-eqb _ _ e)
 
@@ -49,11 +48,11 @@ module _ (t : Table) (id i : ℕ) (size : length t.trains ≡ 32) where
 
 -- ---- the train ahead of a place
 
-pub ahead_first : (t : Table) (i : ℕ) → i ≡ 0 → ahead_of t i ≡ none
+pub ahead_first : (t : Table) (i : ℕ) → i ≡ 0 → ahead_of t i ≡ None
 unfolding ahead_of
 ahead_first t i e = rw e
 
-pub ahead_behind : (t : Table) (i : ℕ) → (i ≡ 0 → ⊥) → ahead_of t i ≡ some (train_at t (i - 1))
+pub ahead_behind : (t : Table) (i : ℕ) → (i ≡ 0 → ⊥) → ahead_of t i ≡ Some (train_at t (i - 1))
 unfolding ahead_of
 ahead_behind t zero h = absurd (h refl)
 ahead_behind t (suc i) h = let e : suc i - 1 ≡ i = omega arith in rw e
@@ -74,26 +73,26 @@ search_ended t id i j k within before here ahead there =
 
 module _ (t : Table) (id i : ℕ) (a x : Train) (size : length t.trains ≡ 32) (e : Ended t id i a x) where
   -- at a train on the line: it is the one that was sought
-  pub ended_here : i < min t.count 32 → place_of t id ≡ some i
+  pub ended_here : i < min t.count 32 → place_of t id ≡ Some i
   ended_here h = e.before ∙ find_here t id i size (omega arith) (omega arith) (e.here h)
 
   -- behind all of them: no train has the id
-  pub ended_behind : min t.count 32 ≤ i → place_of t id ≡ none
+  pub ended_behind : min t.count 32 ≤ i → place_of t id ≡ None
   ended_behind h = e.before ∙ find_end t id i size (by_cases (dec_le t.count i) (λ l. inl l) (λ l. inr (omega arith)))
 
 -- ---- what the search gives, taken apart
 
-pub none_found : (t : Table) (o : Option ℕ) (limit : Limit) → found t o ≡ Nothing limit → (o ≡ none) × (limit ≡ limit_at t (min t.count 32))
-none_found t none limit e = let behind : limit_at t (min t.count 32) ≡ limit = cc in (refl, sym behind)
-none_found t (some i) limit e = let z : ◌≡◌ {A = ℕ} 0 1 = cc in absurd (omega arith)
+pub none_found : (t : Table) (o : Option ℕ) (limit : Option ℕ) → found t o ≡ Nothing limit → (o ≡ None) × (limit ≡ limit_at t (min t.count 32))
+none_found t None limit e = let behind : limit_at t (min t.count 32) ≡ limit = cc in (refl, sym behind)
+none_found t (Some i) limit e = let z : ◌≡◌ {A = ℕ} 0 1 = cc in absurd (omega arith)
 
-pub one_found : (t : Table) (o : Option ℕ) (i : ℕ) (limit : Limit) (x : Train) → found t o ≡ At i limit x → FoundAt t o i limit x
-one_found t none i limit x e = let z : ◌≡◌ {A = ℕ} 0 1 = cc in absurd (omega arith)
-one_found t (some j) i limit x e =
+pub one_found : (t : Table) (o : Option ℕ) (i : ℕ) (limit : Option ℕ) (x : Train) → found t o ≡ At i limit x → FoundAt t o i limit x
+one_found t None i limit x e = let z : ◌≡◌ {A = ℕ} 0 1 = cc in absurd (omega arith)
+one_found t (Some j) i limit x e =
     let same : j ≡ i = cc in
     let limited : limit_at t j ≡ limit = cc in
     let here : train_at t j ≡ x = cc in
-    record { place = ap (λ (n : ℕ). some n) same; limited = sym limited ∙ ap (limit_at t) same; here = sym here ∙ ap (train_at t) same }
+    record { place = ap (λ (n : ℕ). Some n) same; limited = sym limited ∙ ap (limit_at t) same; here = sym here ∙ ap (train_at t) same }
 
 -- ---- moving up
 

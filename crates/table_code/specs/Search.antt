@@ -1,6 +1,5 @@
 -- The search for a train, as the code makes it.
-use Rattle.std.specs.Prelude.{ℕ, min, ◌-◌, ◌≤◌, ◌<◌, ◌≡◌, drop}
-use Rattle.std.proofs.Math.Option.{Option, none, some}
+use Rattle.std.specs.Prelude.{ℕ, min, ◌-◌, ◌≤◌, ◌<◌, ◌≡◌, drop, Option, None, Some}
 use Rattle.train.specs.declared.Train.{Train}
 use Rattle.table.specs.declared.Table.{Table}
 use Rattle.table.specs.Table.{places, on_line, place_in, place_of, train_at, limit_at}
@@ -11,8 +10,8 @@ use Rattle.table_code.specs.declared.Found.TheVariants.{At, Nothing}
 
 -- the train at a place, with its limit; without a train, the limit behind the last one
 abbrev pub found : Table → Option ℕ → Found
-found t none = Nothing (limit_at t (min t.count places))
-found t (some i) = At i (limit_at t i) (train_at t i)
+found t None = Nothing (limit_at t (min t.count places))
+found t (Some i) = At i (limit_at t i) (train_at t i)
 
 -- A search for the train with this id has ended at place i, where a is the record ahead and x the record there: no train before place i has
 -- the id, and the train there has it, if there is one.

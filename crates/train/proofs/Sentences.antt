@@ -1,10 +1,10 @@
 -- Document 01, "Line and consist" and "Orders", said a second time of one train: in numbers and in the fields of its record, where the
 -- definitions test and choose. A wrong definition is refused here, whatever the code.
 -- Assumes nothing.
+use Rattle.std.specs.Prelude.{None, Some}
 use Prim.Native.Nat.{ℕ, ◌+◌, ◌*◌, ◌≤◌, ◌<◌}
 use mathlib.Core.Bool.{true, false}
 use mathlib.Core.Logic.{◌⊎◌, ◌↔◌}
-use mathlib.Core.Option.{none, some}
 use mathlib.Core.Path.{◌≡◌, refl, ap}
 use Rattle.logic.proofs.Tests.{both}
 use Rattle.ranges.specs.Ranges.{line_end_in_range, safety_in_range, ceiling_in_range, traction_in_range}
@@ -66,12 +66,12 @@ settings_exactly o = (only, exactly)
 -- ---- the limit
 
 -- "for the first train it is the line end"
-pub limit_of_the_first : (σ : Settings) (place : ℕ) → InLimit (limit_behind σ none) place ↔ (place ≤ σ.end)
+pub limit_of_the_first : (σ : Settings) (place : ℕ) → InLimit (limit_behind σ None) place ↔ (place ≤ σ.end)
 limit_of_the_first σ place = rw (limit_first σ) ((λ h. h), (λ h. h))
 
 -- "the rear of the train ahead minus the safety distance"; "a train's rear is its head minus its length"; "1 ft is 6,096,000"
 pub limit_behind_lem : (σ : Settings) (a : Train) (place : ℕ)
-    → InLimit (limit_behind σ (some a)) place ↔ (place + σ.safety + 6096000 * a.length ≤ a.motion.head)
+    → InLimit (limit_behind σ (Some a)) place ↔ (place + σ.safety + 6096000 * a.length ≤ a.motion.head)
 unfolding steps_of
 limit_behind_lem σ a place = (in_behind σ a place, behind_in σ a place)
 

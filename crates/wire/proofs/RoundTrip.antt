@@ -1,10 +1,10 @@
 -- What is written is read back: a number, the numbers of a line, a request, an answer. Assumes nothing.
+use Rattle.std.specs.Prelude.{Some}
 use Prim.Native.Nat.{ℕ, zero, suc, ◌+◌, ◌-◌, ◌*◌, ◌/◌, ◌%◌, ◌^◌, ◌<◌}
 use native.Mathlib.Nat.{div-add-mod, mod-lt, pow-zero, pow-suc}
 use native.Mathlib.Omega.{arith}
 use mathlib.Core.Path.{◌≡◌, refl, ap, ◌∙◌}
 use mathlib.Core.Bool.{cond}
-use mathlib.Core.Option.{some}
 use mathlib.Core.List.{List, [], ◌∷◌, ◌++◌}
 use lib.Dec.{eqb, eqb-suc-zero}
 use lib.ListN.{length, length-append}
@@ -95,7 +95,7 @@ text_total (w ∷ ws) [] f = absurd f
 text_total (w ∷ ws) (n ∷ ns) f = simp (length-append, text_long w n, text_total ws ns f.2)
 
 -- the numbers that are written are the numbers that are read
-pub numbers_read : (ws ns : List ℕ) → Fits ws ns → numbers_in ws (text_of ws ns) ≡ some ns
+pub numbers_read : (ws ns : List ℕ) → Fits ws ns → numbers_in ws (text_of ws ns) ≡ Some ns
 unfolding numbers_in text_of
 numbers_read [] [] f = refl
 numbers_read [] (n ∷ ns) f = absurd f
@@ -111,7 +111,7 @@ call_read ns f = simp (eq-eqb (length (text_of call_columns ns)) call_width (tex
 
 -- an answer's line, read, shows the answer's numbers
 pub answer_read : (a : Numbers) → Fits answer_columns (a.number ∷ a.first ∷ a.second ∷ a.third ∷ [])
-    → numbers_in answer_columns (answer_text a) ≡ some (a.number ∷ a.first ∷ a.second ∷ a.third ∷ [])
+    → numbers_in answer_columns (answer_text a) ≡ Some (a.number ∷ a.first ∷ a.second ∷ a.third ∷ [])
 unfolding answer_text
 answer_read a f = numbers_read answer_columns (a.number ∷ a.first ∷ a.second ∷ a.third ∷ []) f
 

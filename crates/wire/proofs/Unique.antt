@@ -1,17 +1,16 @@
 -- Nothing else is read: a field that is read is its number's text, and a line that is read is its numbers' text. Assumes nothing.
+use Rattle.std.specs.Prelude.{Option, None, Some}
 use Prim.Native.Nat.{ℕ, zero, suc, ◌+◌, ◌-◌, ◌*◌, ◌/◌, ◌%◌, ◌^◌, ◌<◌}
 use native.Mathlib.Nat.{add-zero, zero-add, pow-zero, div-add-mod, mod-lt}
 use native.Mathlib.Omega.{arith}
 use mathlib.Core.Path.{◌≡◌, refl, sym, ◌∙◌, subst}
 use mathlib.Core.Bool.{false}
-use mathlib.Core.Option.{Option, none, some}
 use mathlib.Core.List.{List, [], ◌∷◌, ◌++◌, append-nil, append_assoc}
 use lib.Dec.{eqb}
 use lib.ListN.{length, take, drop, length-drop, take-append-drop}
 use lib.Seq.{length-take-le}
 use borrow.Author.Tests.{eqb-true}
 use Rattle.logic.proofs.Tests.{by_test}
-use Rattle.calls.specs.declared.RequestRead.TheVariants.{Unreadable}
 use Rattle.calls.specs.Requests.{request_of}
 use Rattle.wire.specs.declared.Scan.{Scan}
 use Rattle.wire.specs.declared.Scan.TheVariants.{Blank, Digits, Bad}
@@ -99,14 +98,14 @@ field_fits (b ∷ bs) n e =
 
 -- ---- a line
 
-with_number_lem : (f : Field) (r : Option (List ℕ)) (ns : List ℕ) → with_number f r ≡ some ns
-    → (n : ℕ) × (ms : List ℕ) × (f ≡ Number n) × (r ≡ some ms) × (ns ≡ n ∷ ms)
-with_number_lem (Number n) (some ms) ns e = (n, ms, refl, refl, cc)
-with_number_lem (Number n) none ns e = let z : ◌≡◌ {A = ℕ} 0 1 = cc in absurd (omega arith)
+with_number_lem : (f : Field) (r : Option (List ℕ)) (ns : List ℕ) → with_number f r ≡ Some ns
+    → (n : ℕ) × (ms : List ℕ) × (f ≡ Number n) × (r ≡ Some ms) × (ns ≡ n ∷ ms)
+with_number_lem (Number n) (Some ms) ns e = (n, ms, refl, refl, cc)
+with_number_lem (Number n) None ns e = let z : ◌≡◌ {A = ℕ} 0 1 = cc in absurd (omega arith)
 with_number_lem NoNumber r ns e = let z : ◌≡◌ {A = ℕ} 0 1 = cc in absurd (omega arith)
 
 -- a line whose columns are read as numbers is those numbers' text, and each number fits its columns
-pub numbers_text : (ws line ns : List ℕ) → total ws ≡ length line → numbers_in ws line ≡ some ns → (line ≡ text_of ws ns) × Fits ws ns
+pub numbers_text : (ws line ns : List ℕ) → total ws ≡ length line → numbers_in ws line ≡ Some ns → (line ≡ text_of ws ns) × Fits ws ns
 unfolding numbers_in text_of
 numbers_text [] [] [] h e = (refl, tt)
 numbers_text [] [] (n ∷ ns) h e = let z : ◌≡◌ {A = ℕ} 0 1 = cc in absurd (omega arith)
@@ -128,14 +127,14 @@ pub record Typed (line : List ℕ) : Type 0 where
   pub reads : line_read line ≡ request_of numbers
 
 typed_by : (line : List ℕ) (r : Option (List ℕ)) → length line ≡ call_width → numbers_in call_columns line ≡ r → line_read line ≡ request_by r
-    → (line_read line ≡ Unreadable → ⊥) → Typed line
-typed_by line none h e s k = absurd (k s)
-typed_by line (some ns) h e s k =
+    → (line_read line ≡ None → ⊥) → Typed line
+typed_by line None h e s k = absurd (k s)
+typed_by line (Some ns) h e s k =
     let t = numbers_text call_columns line ns (sym h) e in
     record { long = h; numbers = ns; fits = t.1; text = t.0; reads = s }
 
 -- a line that is read is the text of its own numbers, so that nothing else is taken for a request
-pub line_typed : (line : List ℕ) → (line_read line ≡ Unreadable → ⊥) → Typed line
+pub line_typed : (line : List ℕ) → (line_read line ≡ None → ⊥) → Typed line
 unfolding line_read
 line_typed line k =
     by_test (eqb (length line) call_width)
