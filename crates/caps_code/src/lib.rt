@@ -2,18 +2,18 @@
 #![tactic(auto)]
 
 ghost use Rattle.std.specs.Prelude.{true, ◌≡◌, ◌≤◌, length};
+ghost use Rattle.ranges.specs.Ranges.{greatest_traction};
 ghost use Rattle.brake.specs.Consist.{Sound};
-ghost use Rattle.motion.specs.Motion.{drive_speed};
-ghost use Rattle.motion.specs.Orders.{reach, keeps_goal, greatest, order_for};
+ghost use Rattle.motion.specs.Orders.{reach, order_for};
 ghost use Rattle.motion_code.specs.Offers.{offer};
 ghost use Rattle.motion.specs.declared.Order.TheVariants.{Drive};
-ghost use Rattle.motion.specs.Bounds.{Braking, Driving, Bounded};
+ghost use Rattle.motion.specs.Bounds.{Braking};
 ghost use Rattle.caps.specs.Levels.{level_entry, level_list, stop_read};
-ghost use Rattle.caps_code.specs.Search.{CapsAllowed, caps_up_to, short_list, longest_list, Room, Listed, ListedTo, Beyond, Closing, Apart, Next};
+ghost use Rattle.caps_code.specs.Search.{CapsAllowed, caps_up_to, short_list, longest_list, Room, Listed, ListedTo, Beyond, Closing, Apart, Next, driven, best_within};
 
 use brake::Figures;
-use motion::{Maxima, Motion, Order};
-use motion_code::Offer;
+use motion::{Maxima, Order};
+use motion_code::{Offer, Vehicle};
 
 // No consist's list of levels has more entries.
 const LONGEST_LIST: usize = 1991;
@@ -27,13 +27,13 @@ const SLOW: u64 = 1250000;
 // So many trials guess; from then on each halves.
 const GUESSES: u64 = 8;
 
-// The greatest cap that engine and ceiling allow at speed v, or none where they allow not even 0. Each is judged with its own gain.
+// The greatest cap that engine and ceiling allow, or none where they allow not even 0. Each is judged with its own gain.
 #[tactic(auto, using(motion::proofs::Cycles::drive_speed_gain))]
-fn most_allowed(k: Figures, l: Maxima, v: u64) -> Option<u64>
-    requires { Driving k v l.traction }
-    ensures { CapsAllowed k l v (caps_up_to result) }
+fn most_allowed(train: Vehicle, l: Maxima) -> Option<u64>
+    requires { l.traction ≤ greatest_traction }
+    ensures { CapsAllowed train.figures l train.motion.speed (caps_up_to result) }
 {
-    let least = motion_code::drive_speed(k, v, 0);
+    let least = motion_code::drive_speed(train.figures, train.motion.speed, 0);
     l.ceiling
         .checked_sub(least)
         .map(|gain| gain.min(l.traction))
@@ -130,27 +130,27 @@ impl Gap {
 
 // One trial: the reach of cap c.
 #[tactic(auto, using(crate::proofs::Rules::trying), unfolding(motion::specs::Orders::stopping_place))]
-fn trial(k: Figures, m: Motion, list: &[u64], c: u64) -> u64
-    requires { Bounded k m c × Listed k (drive_speed k m.speed c) list.now }
-    ensures { result ≡ reach k m (Drive c) }
+fn trial(train: Vehicle, list: &[u64], c: u64) -> u64
+    requires { (c ≤ greatest_traction) × Listed train.figures (driven train c) list.now }
+    ensures { result ≡ reach train.figures train.motion (Drive c) }
 {
-    let worst = motion_code::worst_case(k, m, Order::Drive(c));
-    worst.head + stop_read(k, list, worst.speed)
+    let worst = train.worst_case(Order::Drive(c));
+    worst.head + stop_read(train.figures, list, worst.speed)
 }
 
 // The greatest cap below high that keeps the goal, with its reach. Every cap below one that keeps the goal keeps it too, so the two ends of
 // the gap close in on it. The reaches of both are kept: none is worked out twice, and the next cap is guessed by them. Whatever is guessed
 // is tried. 25 trials at most, at A = 100,000: 8 that guess, and 17 that halve.
 #[tactic(auto, using(crate::proofs::Rules::closing))]
-fn close_in(k: Figures, goal: u64, m: Motion, list: &[u64], start: Gap) -> Offer
-    requires { Closing k goal m start × Listed k (drive_speed k m.speed start.high) list.now }
-    ensures { result ≡ offer k m (greatest (keeps_goal k goal m) start.high) }
+fn close_in(train: Vehicle, goal: u64, list: &[u64], start: Gap) -> Offer
+    requires { Closing train goal start × Listed train.figures (driven train start.high) list.now }
+    ensures { result ≡ best_within train goal start.high }
 {
     let mut gap = start;
     let mut trials = 0;
     while gap.low + 1 < gap.high {
         let c = gap.next_cap(trials, goal);
-        let tried = trial(k, m, list, c);
+        let tried = trial(train, list, c);
         trials += 1;
         if tried <= goal {
             gap.low = c;
@@ -169,14 +169,15 @@ fn close_in(k: Figures, goal: u64, m: Motion, list: &[u64], start: Gap) -> Offer
 // The same, or brake where no cap below high keeps the goal: then cap 0 does not. The levels are worked out once, in the array lent, as
 // far as the run from the cap high reads them.
 #[tactic(auto, using(crate::proofs::Trials::none_found, crate::proofs::Trials::drive_speed_fits))]
-fn search(k: Figures, goal: u64, m: Motion, high: u64, beyond: u64, list: &mut [u64]) -> Offer
-    requires { Beyond k goal m high beyond × Room k (drive_speed k m.speed high) (length list.old) }
-    ensures { result ≡ offer k m (greatest (keeps_goal k goal m) high) }
+fn search(train: Vehicle, goal: u64, high: u64, beyond: u64, list: &mut [u64]) -> Offer
+    requires { Beyond train goal high beyond × Room train.figures (driven train high) (length list.old) }
+    ensures { result ≡ best_within train goal high }
 {
-    let n = list_levels(k, motion_code::drive_speed(k, m.speed, high), list);
-    let kept = trial(k, m, &list[..n], 0);
+    let fastest = motion_code::drive_speed(train.figures, train.motion.speed, high);
+    let n = list_levels(train.figures, fastest, list);
+    let kept = trial(train, &list[..n], 0);
     if goal < kept {
-        return motion_code::offer_of(k, m, Order::Brake);
+        return train.offer_of(Order::Brake);
     }
     let gap = Gap {
         low: 0,
@@ -184,29 +185,30 @@ fn search(k: Figures, goal: u64, m: Motion, high: u64, beyond: u64, list: &mut [
         high,
         beyond,
     };
-    close_in(k, goal, m, &list[..n], gap)
+    close_in(train, goal, &list[..n], gap)
 }
 
 // The greatest cap up to `most` that keeps the goal, with its reach, or brake where none does. The greatest itself is tried first, by a run of
 // its own: on free track it keeps the goal, and no list is needed.
 #[tactic(auto, using(crate::proofs::Trials::found, crate::proofs::Trials::list_most))]
-fn order_up_to(k: Figures, goal: u64, m: Motion, most: u64) -> Offer
-    requires { Bounded k m most }
-    ensures { result ≡ offer k m (greatest (keeps_goal k goal m) most) }
+fn order_up_to(train: Vehicle, goal: u64, most: u64) -> Offer
+    requires { most ≤ greatest_traction }
+    ensures { result ≡ best_within train goal most }
 {
-    let reach = motion_code::reach_of(k, m, Order::Drive(most));
+    let reach = train.reach_of(Order::Drive(most));
     if reach <= goal {
         return Offer {
             order: Order::Drive(most),
             reach,
         };
     }
-    if reads_few(k, motion_code::drive_speed(k, m.speed, most)) {
+    let fastest = motion_code::drive_speed(train.figures, train.motion.speed, most);
+    if reads_few(train.figures, fastest) {
         let mut short = [0u64; SHORT_LIST];
-        return search(k, goal, m, most, reach, &mut short);
+        return search(train, goal, most, reach, &mut short);
     }
     let mut long = [0u64; LONGEST_LIST];
-    search(k, goal, m, most, reach, &mut long)
+    search(train, goal, most, reach, &mut long)
 }
 
 // ---- the order
@@ -214,12 +216,12 @@ fn order_up_to(k: Figures, goal: u64, m: Motion, most: u64) -> Offer
 // The order that the goal allows, with its reach: drive with the greatest cap that fits, or brake where none does. Engine and ceiling say how
 // far the search goes.
 #[tactic(auto, using(crate::proofs::Trials::none_allowed, crate::proofs::Trials::some_allowed))]
-pub fn order_for(k: Figures, l: Maxima, goal: u64, m: Motion) -> Offer
-    requires { Bounded k m l.traction }
-    ensures { result ≡ offer k m (order_for k l goal m) }
+pub fn order_for(train: Vehicle, l: Maxima, goal: u64) -> Offer
+    requires { l.traction ≤ greatest_traction }
+    ensures { result ≡ offer train.figures train.motion (order_for train.figures l goal train.motion) }
 {
-    match most_allowed(k, l, m.speed) {
-        Some(most) => order_up_to(k, goal, m, most),
-        None => motion_code::offer_of(k, m, Order::Brake),
+    match most_allowed(train, l) {
+        Some(most) => order_up_to(train, goal, most),
+        None => train.offer_of(Order::Brake),
     }
 }

@@ -6,11 +6,20 @@ ghost use Rattle.std.specs.Prelude.{◌≡◌, ◌+◌, ◌*◌, ◌^◌, ◌≤
 ghost use Rattle.motion.specs.Motion.{brake_travel, brake_speed, next_level, drive_travel, drive_speed, stands, stopping_distance};
 ghost use Rattle.motion.specs.Orders.{order_number, order_cap, is_brake, worst_case, reach};
 ghost use Rattle.motion_code.specs.Offers.{offer};
+ghost use Rattle.ranges.specs.Ranges.{greatest_traction};
 ghost use Rattle.motion.specs.Bounds.{Level, Braking, Driving, Bounded, in_bounds};
 
 use brake::{Figures, GREATEST_FULL};
 use motion::{Motion, Order};
 use ranges::{GREATEST_CEILING, GREATEST_LINE_END, GREATEST_TRACTION};
+
+// A train as its motion is worked out: brake figures and motion, within the bounds by which no sum overflows.
+#[derive(Clone, Copy)]
+pub struct Vehicle {
+    pub figures: Figures,
+    pub motion: Motion,
+    pub ghost bounded: { Bounded figures motion 0 },
+}
 
 // An order and its reach.
 #[derive(Clone, Copy)]
@@ -171,43 +180,46 @@ pub fn stopping_distance(k: Figures, v: u64, b: u64) -> u64
     travelled(v, speeds, speed) + brake_travel(k, speed, level)
 }
 
-// The worst case of an order: head, speed and level at the end of the coming cycle.
-#[tactic(auto, using(motion::proofs::Cycles::travel_le), unfolding(motion::specs::Motion::drive_travel))]
-pub fn worst_case(k: Figures, m: Motion, o: Order) -> Motion
-    requires { Bounded k m (order_cap o) }
-    ensures { result ≡ worst_case k m o }
-{
-    match o {
-        Order::Drive(c) => Motion {
-            head: m.head + drive_travel(k, m.speed, c),
-            speed: drive_speed(k, m.speed, c),
-            level: 0,
-        },
-        Order::Brake => Motion {
-            head: m.head + brake_travel(k, m.speed, m.level),
-            speed: brake_speed(k, m.speed, m.level),
-            level: next_level(k, m.level),
-        },
+impl Vehicle {
+    // The worst case of an order: head, speed and level at the end of the coming cycle.
+    #[tactic(auto, using(motion::proofs::Cycles::travel_le), unfolding(motion::specs::Motion::drive_travel))]
+    pub fn worst_case(self, o: Order) -> Motion
+        requires { order_cap o ≤ greatest_traction }
+        ensures { result ≡ worst_case self.figures self.motion o }
+    {
+        let (k, m) = (self.figures, self.motion);
+        match o {
+            Order::Drive(c) => Motion {
+                head: m.head + drive_travel(k, m.speed, c),
+                speed: drive_speed(k, m.speed, c),
+                level: 0,
+            },
+            Order::Brake => Motion {
+                head: m.head + brake_travel(k, m.speed, m.level),
+                speed: brake_speed(k, m.speed, m.level),
+                level: next_level(k, m.level),
+            },
+        }
     }
-}
 
-// Reach of an order: where its worst case stops.
-#[tactic(auto, using(crate::proofs::Rules::reaching), unfolding(motion::specs::Orders::stopping_place))]
-pub fn reach_of(k: Figures, m: Motion, o: Order) -> u64
-    requires { Bounded k m (order_cap o) }
-    ensures { result ≡ reach k m o }
-{
-    let worst = worst_case(k, m, o);
-    worst.head + stopping_distance(k, worst.speed, worst.level)
-}
+    // Reach of an order: where its worst case stops.
+    #[tactic(auto, using(crate::proofs::Rules::reaching), unfolding(motion::specs::Orders::stopping_place))]
+    pub fn reach_of(self, o: Order) -> u64
+        requires { order_cap o ≤ greatest_traction }
+        ensures { result ≡ reach self.figures self.motion o }
+    {
+        let worst = self.worst_case(o);
+        worst.head + stopping_distance(self.figures, worst.speed, worst.level)
+    }
 
-// An order with its reach.
-pub fn offer_of(k: Figures, m: Motion, o: Order) -> Offer
-    requires { Bounded k m (order_cap o) }
-    ensures { result ≡ offer k m o }
-{
-    Offer {
-        order: o,
-        reach: reach_of(k, m, o),
+    // An order with its reach.
+    pub fn offer_of(self, o: Order) -> Offer
+        requires { order_cap o ≤ greatest_traction }
+        ensures { result ≡ offer self.figures self.motion o }
+    {
+        Offer {
+            order: o,
+            reach: self.reach_of(o),
+        }
     }
 }
