@@ -1,28 +1,33 @@
 -- The search for the greatest cap: which caps are allowed, where the search ends, which list serves it, and how many trials it takes.
 -- Assumes nothing.
-use Prim.Native.Nat.{ℕ, zero, suc, ◌+◌, ◌-◌, ◌/◌, ◌≤◌, ◌<◌}
+use Prim.Native.Nat.{ℕ, zero, suc, ◌+◌, ◌-◌, ◌*◌, ◌/◌, ◌≤◌, ◌<◌}
 use mathlib.Core.Bool.{false}
 use mathlib.Core.List.{List}
-use mathlib.Core.Logic.{by_cases, ◌⊎◌, inl, inr}
+use mathlib.Core.Logic.{by_cases}
 use mathlib.Core.Path.{◌≡◌}
 use native.Mathlib.Decide.{dec_le}
 use native.Mathlib.Nat.{le_refl, le_trans}
 use native.Mathlib.Omega.{arith}
+use lib.ListN.{length}
 use borrow.Author.Tests.{le-leb, lt-leb}
 use Rattle.brake.specs.declared.Figures.{Figures}
-use Rattle.brake.specs.Consist.{Sound}
+use Rattle.std.specs.Prelude.{Some}
+use Rattle.brake.specs.Consist.{Sound, figures_of}
 use Rattle.ranges.specs.Ranges.{greatest_traction}
 use Rattle.motion.specs.declared.Motion.{Motion}
 use Rattle.motion.specs.declared.Maxima.{Maxima}
 use Rattle.motion.specs.declared.Order.TheVariants.{Drive, Brake}
 use Rattle.motion.specs.Motion.{drive_speed}
 use Rattle.motion.specs.Orders.{reach, cap_fits, keeps_goal, greatest, order_for}
+use Rattle.motion.specs.Bounds.{greatest_speed, Driving}
 use Rattle.motion.proofs.Cycles.{drive_speed_mono}
 use Rattle.motion.proofs.Runs.{run_mono}
 use Rattle.motion.proofs.Greatest.{greatest_only, greatest_agree}
 use Rattle.motion.proofs.Orders.{reach_mono, fits_over, fits_under}
 use Rattle.caps_code.specs.declared.Gap.{Gap}
-use Rattle.caps_code.specs.Search.{CapsAllowed, Enough, at_full, at_stand, Listed, guesses, Next}
+use Rattle.caps.specs.Levels.{level_list}
+use Rattle.caps.proofs.Levels.{entry_full, list_ends, list_within}
+use Rattle.caps_code.specs.Search.{CapsAllowed, short_list, longest_list, Enough, at_full, at_stand, Listed, guesses, Next}
 
 module _ (k : Figures) (l : Maxima) (goal : ℕ) (m : Motion) where
   -- no cap is allowed: brake
@@ -56,6 +61,19 @@ module _ (k : Figures) (goal : ℕ) (m : Motion) (s : Sound k) (high : ℕ) wher
   none_found over = greatest_only (keeps_goal k goal m) high Brake (λ d q. fails_above 0 d (omega arith) over)
 
 -- ---- the list
+
+-- a driven cycle ends no faster
+pub drive_speed_fits : (k : Figures) (v c : ℕ) → Driving k v c → drive_speed k v c ≤ greatest_speed + greatest_traction
+unfolding drive_speed
+drive_speed_fits k v c h = omega arith
+
+-- it ends with B: a short one by entry 239
+pub list_short : (k : Figures) → Sound k → k.full ≤ 239 * k.growth → length (level_list k) ≤ short_list
+list_short k s h = list_ends k s 239 (entry_full k 239 h)
+
+-- and no consist's is longer
+pub list_most : (load l : ℕ) (k : Figures) → figures_of load l ≡ Some k → length (level_list k) ≤ longest_list
+list_most load l k e = (list_within load l k e).1
 
 -- n entries that are enough for a run are enough for a slower one
 enough_below : {k : Figures} {v v' n : ℕ} → Sound k → v ≤ v' → Enough k v' n → Enough k v n
@@ -104,24 +122,23 @@ half_digits m (suc n) h p = let less = digits_mono m n m (suc n / 2) p (le_refl 
 abbrev pub trials_left : ℕ → ℕ → ℕ
 trials_left trials between = (guesses - trials) + digits between
 
--- a trial of what comes next leaves fewer: the end that moves leaves d caps between
-pub fewer_left : (trials : ℕ) (gap : Gap) (c d : ℕ) → Next trials gap c → (d ≡ c - gap.low - 1) ⊎ (d ≡ gap.high - c - 1)
+-- A trial of what comes next leaves fewer: the end that moves to it leaves d caps between, and no more than half of them where the cap halves.
+fewer_left : {trials c : ℕ} {gap : Gap} (d : ℕ) → Next trials gap c → d ≤ gap.high - gap.low - 1
+    → (c ≡ gap.low + (gap.high - gap.low) / 2 → d ≤ (gap.high - gap.low - 1) / 2)
     → trials_left (trials + 1) d < trials_left trials (gap.high - gap.low - 1)
-fewer_left trials gap c d next e =
+fewer_left {trials = trials} {gap = gap} d next closer nearer =
     by_cases (dec_le guesses trials)
     (λ halving.
-    let half = next.halves halving in
-    let digit = half_digits d (gap.high - gap.low - 1) (omega (arith, next.above, next.below)) (nearer half e) in
-    omega arith)
-    (λ guessing. let fewer = digits_le d (gap.high - gap.low - 1) (closer e) in omega arith)
-  where
-    closer : (d ≡ c - gap.low - 1) ⊎ (d ≡ gap.high - c - 1) → d ≤ gap.high - gap.low - 1
-    closer (inl e) = omega (arith, next.above, next.below)
-    closer (inr e) = omega (arith, next.above, next.below)
+    let digit = half_digits d (gap.high - gap.low - 1) (omega (arith, next.above, next.below)) (nearer (next.halves halving)) in omega arith)
+    (λ guessing. let fewer = digits_le d (gap.high - gap.low - 1) closer in omega arith)
 
-    nearer : c ≡ gap.low + (gap.high - gap.low) / 2 → (d ≡ c - gap.low - 1) ⊎ (d ≡ gap.high - c - 1) → d ≤ (gap.high - gap.low - 1) / 2
-    nearer half (inl e) = omega (arith, next.above, next.below)
-    nearer half (inr e) = omega (arith, next.above, next.below)
+pub fewer_above : (trials : ℕ) (gap : Gap) (c : ℕ) → Next trials gap c
+    → trials_left (trials + 1) (gap.high - c - 1) < trials_left trials (gap.high - gap.low - 1)
+fewer_above trials gap c next = fewer_left (gap.high - c - 1) next (omega (arith, next.above, next.below)) (λ half. omega arith)
+
+pub fewer_below : (trials : ℕ) (gap : Gap) (c : ℕ) → Next trials gap c
+    → trials_left (trials + 1) (c - gap.low - 1) < trials_left trials (gap.high - gap.low - 1)
+fewer_below trials gap c next = fewer_left (c - gap.low - 1) next (omega (arith, next.above, next.below)) (λ half. omega arith)
 
 -- no search takes more than 25
 pub trials_most : (gap : Gap) → gap.high ≤ greatest_traction → trials_left 0 (gap.high - gap.low - 1) ≤ 25

@@ -1,13 +1,15 @@
 -- What the search for the greatest cap takes for granted. Document 01 has the order only (motion/specs/Orders: order_for).
-use Rattle.std.specs.Prelude.{ℕ, ◌+◌, ◌-◌, ◌/◌, ◌≤◌, ◌<◌, List, ◌≡◌, length, get_or, take, Some}
+use Rattle.std.specs.Prelude.{ℕ, ◌+◌, ◌-◌, ◌/◌, ◌≤◌, ◌<◌, List, Option, None, Some, ◌≡◌, length, get_or, take}
 use Rattle.brake.specs.declared.Figures.{Figures}
 use Rattle.brake.specs.Consist.{figures_of}
-use Rattle.motion.specs.declared.Motion.{Motion}
+use Rattle.ranges.specs.Ranges.{greatest_traction}
 use Rattle.motion.specs.declared.Maxima.{Maxima}
 use Rattle.motion.specs.declared.Order.TheVariants.{Drive}
 use Rattle.motion.specs.Motion.{drive_speed, braked_run}
-use Rattle.motion.specs.Orders.{reach}
-use Rattle.motion.specs.Bounds.{Bounded}
+use Rattle.motion.specs.Orders.{reach, keeps_goal, greatest}
+use Rattle.motion_code.specs.declared.Vehicle.{Vehicle}
+use Rattle.motion_code.specs.declared.Offer.{Offer}
+use Rattle.motion_code.specs.Offers.{offer}
 use Rattle.caps.specs.Levels.{level_entry, level_list}
 use Rattle.caps_code.specs.declared.Gap.{Gap}
 
@@ -18,6 +20,11 @@ pub record CapsAllowed (k : Figures) (l : Maxima) (v n : ℕ) : Type 0 where
   pub within : n ≤ l.traction + 1
   pub keep : (c : ℕ) → c < n → drive_speed k v c ≤ l.ceiling
   pub exceed : (c : ℕ) → n ≤ c → c ≤ l.traction → l.ceiling < drive_speed k v c
+
+-- how many caps there are, counted from 0, up to the greatest one; where there is none, none
+abbrev pub caps_up_to : Option ℕ → ℕ
+caps_up_to None = 0
+caps_up_to (Some most) = most + 1
 
 -- Places of the two arrays. The first is enough where few levels are read; no list of a consist is longer than the second
 -- (caps/proofs/Levels: slow_run, list_within).
@@ -47,17 +54,25 @@ pub record ListedTo (k : Figures) (v : ℕ) (list : List ℕ) (n : ℕ) : Type 0
   pub within : n ≤ length list
   pub listed : Listed k v (take n list)
 
+-- speed at the end of a cycle driven with cap c: a trial brakes from there
+abbrev pub driven : Vehicle → ℕ → ℕ
+driven train c = drive_speed train.figures train.motion.speed c
+
 -- a search below the cap high, whose reach lies beyond the goal
-pub record Beyond (k : Figures) (goal : ℕ) (m : Motion) (high beyond : ℕ) : Type 0 where
-  pub bounded : Bounded k m high
-  pub reached : beyond ≡ reach k m (Drive high)
+pub record Beyond (train : Vehicle) (goal high beyond : ℕ) : Type 0 where
+  pub cap : high ≤ greatest_traction
+  pub reached : beyond ≡ reach train.figures train.motion (Drive high)
   pub over : goal < beyond
 
 -- a search below such a cap, and above the cap low, whose reach keeps the goal
-pub record Closing (k : Figures) (goal : ℕ) (m : Motion) (gap : Gap) : Type 0 where
-  pub below : Beyond k goal m gap.high gap.beyond
-  pub reached : gap.kept ≡ reach k m (Drive gap.low)
+pub record Closing (train : Vehicle) (goal : ℕ) (gap : Gap) : Type 0 where
+  pub below : Beyond train goal gap.high gap.beyond
+  pub reached : gap.kept ≡ reach train.figures train.motion (Drive gap.low)
   pub keeps : gap.kept ≤ goal
+
+-- what the search finds: the greatest cap up to `most` that keeps the goal, with its reach, or brake where none does
+abbrev pub best_within : Vehicle → ℕ → ℕ → Offer
+best_within train goal most = offer train.figures train.motion (greatest (keeps_goal train.figures goal train.motion) most)
 
 -- some cap lies between the two
 pub record Apart (goal : ℕ) (gap : Gap) : Type 0 where

@@ -2,8 +2,8 @@
 #![tactic(auto)]
 
 ghost use Rattle.std.specs.Prelude.{◌≡◌, true, ◌+◌, ◌^◌, ◌≤◌, ◌<◌};
-ghost use Rattle.ranges.specs.Ranges.{greatest_length};
-ghost use Rattle.motion.specs.Orders.{reach as reach_under};
+ghost use Rattle.ranges.specs.Ranges.{greatest_length, greatest_traction};
+ghost use Rattle.motion.specs.Orders.{order_cap, reach as reach_under};
 ghost use Rattle.motion_code.specs.Offers.{offer};
 ghost use Rattle.motion.specs.Bounds.{Bounded};
 ghost use Rattle.train.specs.Ranges.{settings_in_range, settings_of};
@@ -15,7 +15,7 @@ ghost use Rattle.train_code.specs.Report.{with_reach};
 use brake::Figures;
 use calls::{Entry, Opening, Reading};
 use motion::{Maxima, Motion, Order};
-use motion_code::Offer;
+use motion_code::{Offer, Vehicle};
 use train::{Authority, Limit, Marks, Settings, Train};
 
 // A train record and the reach of its order: a report is answered with it.
@@ -225,15 +225,24 @@ pub fn is_computable(x: Train) -> bool
     motion_code::in_bounds(k, m, motion_code::order_cap(o))
 }
 
+// The train as its motion is worked out. The cap of its order is within bounds too.
+fn vehicle_of(x: Train) -> Vehicle
+    requires { computable x ≡ true }
+    ensures same { (result.figures ≡ x.figures) × (result.motion ≡ x.motion) }
+    ensures cap { order_cap x.order ≤ greatest_traction }
+{
+    Vehicle {
+        figures: x.figures,
+        motion: x.motion,
+    }
+}
+
 // The worst case of the last order.
 fn worst_of(x: Train) -> Motion
     requires { computable x ≡ true }
     ensures { result ≡ worst_of x }
 {
-    let k = x.figures;
-    let m = x.motion;
-    let o = x.order;
-    motion_code::worst_case(k, m, o)
+    vehicle_of(x).worst_case(x.order)
 }
 
 // A call back to a place short of it is pending.
@@ -241,10 +250,7 @@ pub fn reach_of(x: Train) -> u64
     requires { computable x ≡ true }
     ensures { result ≡ reach_of x }
 {
-    let k = x.figures;
-    let m = x.motion;
-    let o = x.order;
-    motion_code::reach_of(k, m, o)
+    vehicle_of(x).reach_of(x.order)
 }
 
 // Head and speed are judged each by itself: no further back than the last head, no worse than the worst case.
@@ -316,13 +322,14 @@ fn order_after(s: Settings, x: Train, m: Motion) -> Offer
     requires { Bounded x.figures m s.maxima.traction }
     ensures { result ≡ offer x.figures m (order_after s x m) }
 {
-    let k = x.figures;
+    let after = Vehicle {
+        figures: x.figures,
+        motion: m,
+    };
     if must_brake(x, m) {
-        return motion_code::offer_of(k, m, Order::Brake);
+        return after.offer_of(Order::Brake);
     }
-    let maxima = s.maxima;
-    let a = x.authority;
-    caps_code::order_for(k, maxima, a.goal, m)
+    caps_code::order_for(after, s.maxima, x.authority.goal)
 }
 
 // The record after a report that is allowed, and its reach, which the search for the order has found.
