@@ -10,28 +10,24 @@ ghost use Rattle.acts.specs.Decide.{reporting, extending, calling_back, decide a
 
 use acts::Verdict;
 use calls::{Act, Extension, Reading, Refusal, Values};
-use train::{Authority, Limit, Settings, Train};
+use train::{Authority, Limit, Marks, Settings, Train};
 
 // ---- extend
 
 // No request longer than the line can be granted, so its length is bounded by the line end.
+#[tactic(auto, unfolding(acts::specs::Acts::request_in_range))]
 fn request_in_range(s: Settings, q: Extension) -> bool
     ensures { result ≡ request_in_range s q }
 {
-    logic::both(
-        ranges::number_in_range(q.number),
-        ranges::in_range(1, s.end, q.length),
-    )
+    ranges::number_in_range(q.number) && ranges::in_range(1, s.end, q.length)
 }
 
 // Refusal 11. The last accepted number itself is not old: it may be a repeat.
+#[tactic(auto, unfolding(acts::specs::Acts::is_old))]
 fn is_old(a: Authority, q: Extension) -> bool
     ensures { result ≡ is_old a q }
 {
-    if q.number <= a.start {
-        return true;
-    }
-    q.number < a.number
+    q.number <= a.start || q.number < a.number
 }
 
 // A new request is granted: its length is added, and its number is the last accepted one.
@@ -40,54 +36,50 @@ fn grant(x: Train, q: Extension) -> Train
     ensures { result ≡ authorised x (granted x.authority q) }
 {
     let a = x.authority;
-    let mut y = x;
-    y.authority = train_code::authority_to(a.end + q.length, a.start, q.number, q.length);
-    y
+    Train {
+        authority: train_code::authority_to(a.end + q.length, a.start, q.number, q.length),
+        ..x
+    }
 }
 
 // ---- call back, hold and lift
 
 // Refusal 14. Any place from the head on may be wanted.
+#[tactic(auto, unfolding(acts::specs::Acts::call_back_allowed))]
 fn call_back_allowed(x: Train, place: u64) -> bool
     ensures { result ≡ call_back_allowed x place }
 {
-    if !train_code::is_computable(x) {
-        return false;
-    }
-    let a = x.authority;
-    let m = x.motion;
-    ranges::in_range(m.head, a.end, place)
+    train_code::is_computable(x) && ranges::in_range(x.motion.head, x.authority.end, place)
 }
 
 // From the reach on, the end moves at once. Short of it the order already given may carry the train past the place: the call back is pending.
+#[tactic(auto, unfolding(acts::specs::Acts::called_back))]
 fn call_back_to(x: Train, place: u64) -> Train
     requires { computable x ≡ true }
     ensures { result ≡ called_back x place }
 {
-    let a = x.authority;
-    let mut y = x;
-    if place < train_code::reach_of(x) {
-        y.authority = train_code::want(a, place);
-        return y;
-    }
-    y.authority = train_code::ending_at(a, place);
-    y
+    let authority = if place < train_code::reach_of(x) {
+        train_code::want(x.authority, place)
+    } else {
+        train_code::ending_at(x.authority, place)
+    };
+    Train { authority, ..x }
 }
 
 // Hold and lift: the mark of a hold alone, which the next report reads. A penalty brake stays on.
 fn with_held(x: Train, held: bool) -> Train
     ensures { result ≡ holding x held }
 {
-    let mut s = x.marks;
-    s.held = held;
-    let mut y = x;
-    y.marks = s;
-    y
+    Train {
+        marks: Marks { held, ..x.marks },
+        ..x
+    }
 }
 
 // ---- what each act comes to
 
 // Report: closes one cycle, and gets the order for the next.
+#[tactic(auto, using(crate::proofs::Rules::reporting))]
 fn report(s: Settings, x: Train, r: Reading) -> Verdict
     ensures { result ≡ verdict (reporting s x r) }
 {
@@ -95,19 +87,16 @@ fn report(s: Settings, x: Train, r: Reading) -> Verdict
         return Err(Refusal::NotAllowed);
     }
     let after = train_code::report_on(s, x, r);
-    let y = after.train;
-    let o = y.order;
-    Ok((Values::Ordered(o, after.reach), y))
+    Ok((Values::Ordered(after.train.order, after.reach), after.train))
 }
 
 // Extend: a new number adds its length if the new end is within the limit, and the last accepted one again adds none. While a call back is
 // pending, orders aim at another place than the end, and no new number is taken.
+#[tactic(auto, using(crate::proofs::Rules::extending))]
 fn extend(s: Settings, limit: Limit, x: Train, q: Extension) -> Verdict
     ensures { result ≡ verdict (extending s limit x q) }
 {
     let a = x.authority;
-    let end = a.end;
-    let length = q.length;
     if !request_in_range(s, q) {
         return Err(Refusal::BadRequest);
     }
@@ -115,23 +104,23 @@ fn extend(s: Settings, limit: Limit, x: Train, q: Extension) -> Verdict
         return Err(Refusal::OldNumber);
     }
     if q.number == a.number {
-        if length != a.length {
+        if q.length != a.length {
             return Err(Refusal::OtherLength);
         }
-        return Ok((Values::Extended(end, true), x));
+        return Ok((Values::Extended(a.end, true), x));
     }
-    if a.goal != end {
+    if a.goal != a.end {
         return Err(Refusal::Pending);
     }
-    if !train_code::within(limit, end, length) {
+    if !train_code::within(limit, a.end, q.length) {
         return Err(Refusal::NoTrack);
     }
     let y = grant(x, q);
-    let b = y.authority;
-    Ok((Values::Extended(b.end, false), y))
+    Ok((Values::Extended(y.authority.end, false), y))
 }
 
 // Call back: the end becomes a place from reach to end, or one from the head on is wanted.
+#[tactic(auto, using(crate::proofs::Rules::calling_back))]
 fn call_back(x: Train, place: u64) -> Verdict
     ensures { result ≡ verdict (calling_back x place) }
 {
@@ -142,6 +131,7 @@ fn call_back(x: Train, place: u64) -> Verdict
 }
 
 // An act of the train x with this limit. Hold is the emergency message, lift its withdrawal: both act from the next report on.
+#[tactic(auto, unfolding(calls::specs::Checks::first_of))]
 pub fn decide(s: Settings, limit: Limit, x: Train, a: Act) -> Verdict
     ensures { result ≡ verdict (decision s limit x a) }
 {
@@ -157,12 +147,11 @@ pub fn decide(s: Settings, limit: Limit, x: Train, a: Act) -> Verdict
 // ---- take off
 
 // Refusal 15. Under drive a standing train may start in the coming cycle.
+#[tactic(auto, unfolding(acts::specs::Acts::may_leave))]
 pub fn may_leave(i: usize, x: Train) -> bool
     ensures { result ≡ may_leave i x }
 {
-    let k = x.figures;
-    let m = x.motion;
-    let o = x.order;
-    let standing = logic::both(i == 0, motion_code::standing(k, m.speed, m.level));
-    logic::both(standing, motion_code::is_brake(o))
+    i == 0
+        && motion_code::standing(x.figures, x.motion.speed, x.motion.level)
+        && motion_code::is_brake(x.order)
 }

@@ -1,2 +1,3 @@
 pub mod Consist
 pub mod Sentences
+pub mod Rules

@@ -19,6 +19,7 @@ pub struct Figures {
 
 // The load class alone decides each car's brake force in lbf and its mass in lb. A car of unknown load has a force of its own, and the mass of a
 // loaded car.
+#[tactic(auto, unfolding(crate::specs::Consist::car_of))]
 fn car_of(load: u64) -> Option<(u64, u64)>
     ensures { result ≡ car_of load }
 {
@@ -30,47 +31,38 @@ fn car_of(load: u64) -> Option<(u64, u64)>
     }
 }
 
-// The sheet is in 16 bits, and the figures in 64.
-fn wide(x: u16) -> u64
-    ensures { result ≡ x }
-{
-    x as u64
-}
-
-// An entry of the brake shop's sheet. Document 02, (i): "Build the sheet in as a constant table".
+// An entry of the brake shop's sheet. Document 02, (i): "Build the sheet in as a constant table". The sheet is in 16 bits, and the figures in 64.
 fn sheet_entry(entry: usize) -> u64
     requires { entry < 501 }
     ensures { result ≡ sheet_entry entry }
 {
-    wide(sheet::SHEET[entry])
+    u64::from(sheet::SHEET[entry])
 }
 
 // Cycles until the brake is full. A length between two multiples of 20 ft takes the entry of the longer one, so that no brake is taken for
 // quicker than it is.
+#[tactic(auto, unfolding(crate::specs::Consist::brake_cycles, crate::specs::Consist::entry_for, logic::specs::Rounding::ceil_div))]
 fn brake_cycles(length: u64) -> u64
     requires { length ≤ greatest_length }
     ensures { result ≡ brake_cycles length }
 {
-    sheet_entry(((length + 19) / 20) as usize)
+    sheet_entry(length.div_ceil(20) as usize)
 }
 
 // The figures that a train enters with, or none for a load class or a length out of range.
+#[tactic(auto, using(crate::proofs::Rules::entering), unfolding(crate::specs::Consist::figures_with, crate::specs::Consist::full_brake))]
 pub fn figures_of(load: u64, length: u64) -> Option<Figures>
     ensures { result ≡ figures_of load length }
 {
     if !ranges::length_in_range(length) {
         return None;
     }
-    match car_of(load) {
-        Some((force, mass)) => {
-            // Standard gravity, 9.80665 m/s², is 980,665 µm/s in a cycle.
-            let full = force * 980665 / mass;
-            let cycles = brake_cycles(length);
-            Some(Figures {
-                full: full,
-                growth: full / cycles,
-            })
-        }
-        None => None,
-    }
+    let (force, mass) = car_of(load)?;
+    // Standard gravity, 9.80665 m/s², is 980,665 µm/s in a cycle.
+    let full = force * 980665 / mass;
+    let cycles = brake_cycles(length);
+    Some(Figures {
+        full,
+        growth: full / cycles,
+    })
 }

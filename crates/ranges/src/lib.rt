@@ -20,10 +20,11 @@ const GREATEST_LENGTH: u64 = 10000;
 const GREATEST_NUMBER: u64 = 4294967295;
 
 // Both ends are in the range.
+#[tactic(auto, unfolding(crate::specs::Ranges::between))]
 pub fn in_range(low: u64, high: u64, n: u64) -> bool
     ensures { result ≡ between low high n }
 {
-    logic::both(low <= n, n <= high)
+    (low..=high).contains(&n)
 }
 
 pub fn line_end_in_range(n: u64) -> bool

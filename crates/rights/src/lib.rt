@@ -16,10 +16,11 @@ const YARD: u64 = 70000;
 fn is_train(id: u64, caller: u64) -> bool
     ensures { result ≡ is_train id caller }
 {
-    logic::both(ranges::id_in_range(caller), caller == id)
+    ranges::id_in_range(caller) && caller == id
 }
 
 // A train reports and extends; the dispatcher calls back, holds and lifts.
+#[tactic(auto, unfolding(crate::specs::Rights::may_ask))]
 fn may_act(caller: u64, id: u64, a: Act) -> bool
     ensures { result ≡ may_ask caller (Ask.OnTable (Call.Own id a)) }
 {
@@ -33,6 +34,7 @@ fn may_act(caller: u64, id: u64, a: Act) -> bool
 }
 
 // The yard enters and takes off.
+#[tactic(auto, unfolding(crate::specs::Rights::may_ask))]
 fn may_call(caller: u64, c: Call) -> bool
     ensures { result ≡ may_ask caller (Ask.OnTable c) }
 {
@@ -44,6 +46,7 @@ fn may_call(caller: u64, c: Call) -> bool
 }
 
 // Whether the caller with this number has the right. The dispatcher opens.
+#[tactic(auto, unfolding(crate::specs::Rights::may_ask))]
 pub fn may_ask(caller: u64, a: Ask) -> bool
     ensures { result ≡ may_ask caller a }
 {

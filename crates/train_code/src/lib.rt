@@ -27,15 +27,14 @@ pub struct Reported {
 
 // ---- ranges
 
+#[tactic(auto, unfolding(train::specs::Ranges::settings_in_range))]
 pub fn settings_in_range(o: Opening) -> bool
     ensures { result ≡ settings_in_range o }
 {
-    let track = logic::both(
-        ranges::line_end_in_range(o.end),
-        ranges::safety_in_range(o.safety),
-    );
-    let speed = logic::both(track, ranges::ceiling_in_range(o.ceiling));
-    logic::both(speed, ranges::traction_in_range(o.traction))
+    ranges::line_end_in_range(o.end)
+        && ranges::safety_in_range(o.safety)
+        && ranges::ceiling_in_range(o.ceiling)
+        && ranges::traction_in_range(o.traction)
 }
 
 // What an opening gives is not what a table works with: the latter may grow while trains run.
@@ -55,43 +54,27 @@ pub fn settings_of(o: Opening) -> Settings
 // ---- the limit
 
 // A length in steps of 50 nm. In 16 bits no length overflows.
+#[tactic(auto, unfolding(train::specs::Track::steps_of))]
 pub fn steps_of(length: u16) -> u64
     ensures { result ≡ steps_of length }
 {
-    6096000 * (length as u64)
+    6096000 * u64::from(length)
 }
 
-// The limit behind the train a. Each difference is tested first: no limit lies below 0.
+// The limit behind the train a: its rear minus the safety distance, or none where either difference would lie below 0.
+#[tactic(auto, unfolding(train::specs::Track::limit_behind))]
 pub fn limit_behind(s: Settings, a: Train) -> Limit
     ensures { result ≡ limit_behind s (Some a) }
 {
-    let safety = s.safety;
-    let m = a.motion;
-    let head = m.head;
-    let length = steps_of(a.length);
-    if head < length {
-        return None;
-    }
-    let rear = head - length;
-    if rear < safety {
-        return None;
-    }
-    Some(rear - safety)
+    let rear = a.motion.head.checked_sub(steps_of(a.length))?;
+    rear.checked_sub(s.safety)
 }
 
 // Whether the place end + more is within a limit; then the sum fits.
 pub fn within(limit: Limit, end: u64, more: u64) -> bool
     ensures { (result ≡ within_limit limit (end + more)) × (result ≡ true → end + more < 2 ^ 64) }
 {
-    match limit {
-        Some(place) => {
-            if place < end {
-                return false;
-            }
-            more <= place - end
-        }
-        None => false,
-    }
+    limit.is_some_and(|place| end <= place && more <= place - end)
 }
 
 // ---- a record, by its parts
@@ -134,9 +117,7 @@ pub fn ending_at(a: Authority, place: u64) -> Authority
 pub fn want(a: Authority, place: u64) -> Authority
     ensures { result ≡ wanting a place }
 {
-    let mut b = a;
-    b.goal = place;
-    b
+    Authority { goal: place, ..a }
 }
 
 pub fn fresh_marks() -> Marks
@@ -153,7 +134,6 @@ pub fn new_train(e: Entry, k: Figures) -> Train
     requires { e.length ≤ greatest_length }
     ensures { result ≡ entering e k }
 {
-    let full = k.full;
     Train {
         id: e.id,
         length: e.length as u16,
@@ -161,7 +141,7 @@ pub fn new_train(e: Entry, k: Figures) -> Train
         motion: Motion {
             head: e.head,
             speed: 0,
-            level: full,
+            level: k.full,
         },
         order: Order::Brake,
         authority: fresh_authority(e.head, e.start),
@@ -171,58 +151,47 @@ pub fn new_train(e: Entry, k: Figures) -> Train
 
 // Where a pending call back ends: at the place that it wants, once the order just given stops the train there, or at the head of a train that
 // stands past it. None is pending where orders aim at the end.
+#[tactic(auto, unfolding(train::specs::Report::settled, train::specs::Record::is_pending))]
 fn settle(a: Authority, standing: bool, head: u64, reach: u64) -> Authority
     ensures { result ≡ settled a standing head reach }
 {
-    let goal = a.goal;
-    if goal == a.end {
-        return a;
+    if a.goal == a.end {
+        a
+    } else if reach <= a.goal {
+        ending_at(a, a.goal)
+    } else if standing && a.goal < head {
+        ending_at(a, head)
+    } else {
+        a
     }
-    if reach <= goal {
-        return ending_at(a, goal);
-    }
-    if !standing {
-        return a;
-    }
-    if goal < head {
-        return ending_at(a, head);
-    }
-    a
 }
 
-// Report: another motion and order, the mark that they make, and what they make of a pending call back. The reach is that of the order. The
-// record is written anew, because an order is not stored to.
-fn with_order(x: Train, m: Motion, o: Order, reach: u64) -> Train
-    requires { reach ≡ reach_under x.figures m o }
-    ensures { result ≡ ordered x m o }
+// Report: another motion and order, the mark that they make, and what they make of a pending call back.
+fn with_order(x: Train, m: Motion, given: Offer) -> Train
+    requires { given.reach ≡ reach_under x.figures m given.order }
+    ensures { result ≡ ordered x m given.order }
 {
-    let k = x.figures;
-    let a = x.authority;
-    let standing = motion_code::standing(k, m.speed, m.level);
-    let b = settle(a, standing, m.head, reach);
-    let mut s = x.marks;
-    s.penalty = is_penalty(k, m, o);
+    let standing = motion_code::standing(x.figures, m.speed, m.level);
     Train {
-        id: x.id,
-        length: x.length,
-        figures: k,
         motion: m,
-        order: o,
-        authority: b,
-        marks: s,
+        order: given.order,
+        authority: settle(x.authority, standing, m.head, given.reach),
+        marks: Marks {
+            penalty: is_penalty(x.figures, m, given.order),
+            ..x.marks
+        },
+        ..x
     }
 }
 
 // ---- report
 
 // Whether motion can be worked out from the record.
+#[tactic(auto, unfolding(train::specs::Report::computable))]
 pub fn is_computable(x: Train) -> bool
     ensures { result ≡ computable x }
 {
-    let k = x.figures;
-    let m = x.motion;
-    let o = x.order;
-    motion_code::in_bounds(k, m, motion_code::order_cap(o))
+    motion_code::in_bounds(x.figures, x.motion, motion_code::order_cap(x.order))
 }
 
 // The train as its motion is worked out. The cap of its order is within bounds too.
@@ -254,14 +223,13 @@ pub fn reach_of(x: Train) -> u64
 }
 
 // Head and speed are judged each by itself: no further back than the last head, no worse than the worst case.
+#[tactic(auto, unfolding(train::specs::Report::allowed))]
 fn is_allowed(x: Train, r: Reading) -> bool
     requires { computable x ≡ true }
     ensures { result ≡ allowed x r }
 {
-    let m = x.motion;
     let worst = worst_of(x);
-    let head = logic::both(m.head <= r.head, r.head <= worst.head);
-    logic::both(head, r.speed <= worst.speed)
+    x.motion.head <= r.head && r.head <= worst.head && r.speed <= worst.speed
 }
 
 // The motion after a report: the level is the one found after the last cycle, whatever was reported.
@@ -269,31 +237,25 @@ fn motion_after(x: Train, r: Reading) -> Motion
     requires { computable x ≡ true }
     ensures { result ≡ motion_after x r }
 {
-    let worst = worst_of(x);
     Motion {
         head: r.head,
         speed: r.speed,
-        level: worst.level,
+        level: worst_of(x).level,
     }
 }
 
 // Refusal 9. A record that motion cannot be worked out from is refused too: no list of calls leaves one.
+#[tactic(auto, unfolding(train::specs::Report::report_allowed))]
 pub fn report_allowed(s: Settings, x: Train, r: Reading) -> bool
     ensures { result ≡ report_allowed s x r }
 {
-    if !is_computable(x) {
-        return false;
-    }
-    let k = x.figures;
-    let maxima = s.maxima;
-    let m = motion_after(x, r);
-    logic::both(
-        is_allowed(x, r),
-        motion_code::in_bounds(k, m, maxima.traction),
-    )
+    is_computable(x)
+        && is_allowed(x, r)
+        && motion_code::in_bounds(x.figures, motion_after(x, r), s.maxima.traction)
 }
 
 // Whether a train moves, that is, does not stand.
+#[tactic(auto, unfolding(train::specs::Report::moves))]
 fn is_moving(k: Figures, m: Motion) -> bool
     ensures { result ≡ moves k m }
 {
@@ -301,23 +263,23 @@ fn is_moving(k: Figures, m: Motion) -> bool
 }
 
 // A brake order to a moving train is a penalty brake: it stays on.
+#[tactic(auto, unfolding(train::specs::Report::is_penalty))]
 fn is_penalty(k: Figures, m: Motion, o: Order) -> bool
     ensures { result ≡ is_penalty k m o }
 {
-    logic::both(motion_code::is_brake(o), is_moving(k, m))
+    motion_code::is_brake(o) && is_moving(k, m)
 }
 
 // Brake, whatever the track. Neither a lift nor more track ends a penalty brake: only a stand does.
+#[tactic(auto, unfolding(train::specs::Report::must_brake))]
 fn must_brake(x: Train, m: Motion) -> bool
     ensures { result ≡ must_brake x m }
 {
-    let k = x.figures;
-    let marks = x.marks;
-    let stays_on = logic::both(marks.penalty, is_moving(k, m));
-    logic::either(stays_on, marks.held)
+    (x.marks.penalty && is_moving(x.figures, m)) || x.marks.held
 }
 
 // A hold acts here, at the next report, and not on the order already given.
+#[tactic(auto, unfolding(train::specs::Report::order_after))]
 fn order_after(s: Settings, x: Train, m: Motion) -> Offer
     requires { Bounded x.figures m s.maxima.traction }
     ensures { result ≡ offer x.figures m (order_after s x m) }
@@ -327,22 +289,22 @@ fn order_after(s: Settings, x: Train, m: Motion) -> Offer
         motion: m,
     };
     if must_brake(x, m) {
-        return after.offer_of(Order::Brake);
+        after.offer_of(Order::Brake)
+    } else {
+        caps_code::order_for(after, s.maxima, x.authority.goal)
     }
-    caps_code::order_for(after, s.maxima, x.authority.goal)
 }
 
 // The record after a report that is allowed, and its reach, which the search for the order has found.
+#[tactic(auto, using(train::proofs::Records::report_passed), unfolding(train::specs::Report::reported))]
 pub fn report_on(s: Settings, x: Train, r: Reading) -> Reported
     requires { report_allowed s x r ≡ true }
     ensures { result ≡ with_reach (reported s x r) }
 {
     let m = motion_after(x, r);
     let given = order_after(s, x, m);
-    let o = given.order;
-    let reach = given.reach;
     Reported {
-        train: with_order(x, m, o, reach),
-        reach,
+        train: with_order(x, m, given),
+        reach: given.reach,
     }
 }

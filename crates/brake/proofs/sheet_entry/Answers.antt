@@ -12,4 +12,4 @@ unfolding ceil_div application_time application_cycles sheet_entry
 entries_follow = refl
 
 pub returns : goal.returns
-returns c = c.wide.ensures ∙ entry_follows sheet_entry SHEET entries_follow c.args.entry c.requires
+returns c = c.from.ensures ∙ entry_follows sheet_entry SHEET entries_follow c.args.entry c.requires
