@@ -1,24 +1,2 @@
-// Logic and numbers that speak of no train: tests joined, and quotients rounded up.
+// No code: logic and numbers that speak of no train. Proofs by cases on a test, quotients rounded up, tables that follow a rule.
 #![tactic(auto)]
-
-ghost use Rattle.std.specs.Prelude.{◌≡◌, ◌&&◌, ◌||◌};
-
-// Whether both tests pass. A chain of tests is one expression with it, and its proof one line.
-pub fn both(a: bool, b: bool) -> bool
-    ensures { result ≡ a && b }
-{
-    if a {
-        return b;
-    }
-    false
-}
-
-// Whether one of the tests passes, or both do.
-pub fn either(a: bool, b: bool) -> bool
-    ensures { result ≡ a || b }
-{
-    if a {
-        return true;
-    }
-    b
-}
