@@ -1,7 +1,9 @@
 -- Document 01, "Authorities" and "What is turned down", and document 02, (vi), said a second time of one train: in numbers and in the fields
 -- of its record, where the definitions test and choose. A wrong definition is refused here, whatever the code.
 -- Assumes nothing.
-use Rattle.std.specs.Prelude.{None}
+use Rattle.std.specs.Prelude.{None, Option, Result, Err, Ok}
+use Rattle.calls.specs.declared.Refusal.{Refusal}
+use Rattle.calls.specs.declared.Values.{Values}
 use Prim.Native.Nat.{ℕ, ◌+◌, ◌≤◌, ◌<◌}
 use mathlib.Core.Bool.{true, false, ◌&&◌}
 use mathlib.Core.Logic.{◌⊎◌, inl, inr, ◌↔◌}
@@ -28,9 +30,6 @@ use Rattle.calls.proofs.Checks.{passed}
 use Rattle.train.specs.declared.Settings.{Settings}
 use Rattle.train.specs.declared.Authority.{Authority}
 use Rattle.train.specs.declared.Train.{Train}
-use Rattle.train.specs.declared.Limit.{Limit}
-use Rattle.acts.specs.declared.Verdict.{Verdict}
-use Rattle.acts.specs.declared.Verdict.TheVariants.{TurnedDown, Passed}
 use Rattle.train.specs.Record.{same}
 use Rattle.train.specs.Report.{reach_of, order_after, is_penalty, settled, reported, computable, report_allowed}
 use Rattle.acts.specs.Acts.{request_in_range, is_old, is_repeat, extended, called_back, call_back_allowed, may_leave}
@@ -45,12 +44,12 @@ use Rattle.acts.proofs.Verdicts.{report_refused, report_taken, extend_bad, exten
 
 -- ---- reports
 
-module _ (σ : Settings) (limit : Limit) (x : Train) (r : Reading) where
-  abbrev report : Verdict
+module _ (σ : Settings) (limit : Option ℕ) (x : Train) (r : Reading) where
+  abbrev report : Result (Values × Train) Refusal
   report = verdict (decide σ limit x (Report r))
 
   -- 9 "report not allowed"
-  pub report_9 : (Allows x.figures x.motion x.order r → ⊥) → report ≡ TurnedDown NotAllowed
+  pub report_9 : (Allows x.figures x.motion x.order r → ⊥) → report ≡ Err NotAllowed
   report_9 out =
       by_test (report_allowed σ x r) (λ e. absurd (out ((report_exactly x r).0 (report_passed σ x r e).allows))) (λ e. report_refused σ x r e)
 
@@ -61,9 +60,11 @@ module _ (σ : Settings) (limit : Limit) (x : Train) (r : Reading) where
   AnsweredBy m =
       let o = order_after σ x m in
       report
-      ≡ Passed (Ordered o (reach x.figures m o))
-      (same x m o (settled x.authority (stands x.figures m.speed m.level) m.head (reach x.figures m o))
-      (record { held = x.marks.held; penalty = is_penalty x.figures m o }))
+      ≡ Ok (
+        Ordered o (reach x.figures m o),
+        same x m o (settled x.authority (stands x.figures m.speed m.level) m.head (reach x.figures m o))
+            (record { held = x.marks.held; penalty = is_penalty x.figures m o }),
+      )
 
   pub report_answered : report_allowed σ x r ≡ true
       → AnsweredBy (record { head = r.head; speed = r.speed; level = level_found x.figures x.motion x.order })
@@ -72,20 +73,20 @@ module _ (σ : Settings) (limit : Limit) (x : Train) (r : Reading) where
 
 -- ---- extend
 
-module _ (σ : Settings) (limit : Limit) (x : Train) (q : Extension) where
-  abbrev extension : Verdict
+module _ (σ : Settings) (limit : Option ℕ) (x : Train) (q : Extension) where
+  abbrev extension : Result (Values × Train) Refusal
   extension = verdict (decide σ limit x (Extend q))
 
   abbrev mine : Authority
   mine = x.authority
 
   -- 10 "request number or length out of range"
-  pub extension_10 : (WellFormed σ q → ⊥) → extension ≡ TurnedDown BadRequest
+  pub extension_10 : (WellFormed σ q → ⊥) → extension ≡ Err BadRequest
   extension_10 out = by_test (request_in_range σ q) (λ e. absurd (out (well_formed σ q e))) (λ e. extend_bad σ x limit q e)
 
   module _ (a : WellFormed σ q) where
     -- 11 "number at or below the starting number, or below the last accepted"
-    pub extension_11 : (q.number ≤ mine.start) ⊎ (q.number < mine.number) → extension ≡ TurnedDown OldNumber
+    pub extension_11 : (q.number ≤ mine.start) ⊎ (q.number < mine.number) → extension ≡ Err OldNumber
     unfolding is_old
     extension_11 h = extend_old σ x limit q (ranged σ q a) (old h)
       where
@@ -99,21 +100,21 @@ module _ (σ : Settings) (limit : Limit) (x : Train) (q : Extension) where
       fresh h = rw (lt-leb _ _ above, le-ltb _ _ h)
 
       -- 12 "last accepted number with another length"
-      pub extension_12 : q.number ≡ mine.number → (q.length ≡ mine.length → ⊥) → extension ≡ TurnedDown OtherLength
+      pub extension_12 : q.number ≡ mine.number → (q.length ≡ mine.length → ⊥) → extension ≡ Err OtherLength
       extension_12 e other = extend_other σ x limit q (ranged σ q a) (fresh (omega arith)) e other
 
       -- "The last accepted number with the same length changes nothing and is answered with the end of now"
-      pub extension_repeated : q.number ≡ mine.number → q.length ≡ mine.length → extension ≡ Passed (Extended mine.end true) x
+      pub extension_repeated : q.number ≡ mine.number → q.length ≡ mine.length → extension ≡ Ok ((Extended mine.end true), x)
       extension_repeated e f = extend_repeat σ x limit q (ranged σ q a) (fresh (omega arith)) e f
 
       module _ (new : mine.number < q.number) where
         -- 17 "a new extension while a call back is pending ... before 13": whatever the limit
-        pub extension_17 : (mine.goal ≡ mine.end → ⊥) → extension ≡ TurnedDown Pending
+        pub extension_17 : (mine.goal ≡ mine.end → ⊥) → extension ≡ Err Pending
         extension_17 pending = extend_pending σ x limit q (ranged σ q a) (fresh (omega arith)) (λ e. omega arith) pending
 
         module _ (free : mine.goal ≡ mine.end) where
           -- 13 "new end beyond the limit"
-          pub extension_13 : (InLimit limit (mine.end + q.length) → ⊥) → extension ≡ TurnedDown NoTrack
+          pub extension_13 : (InLimit limit (mine.end + q.length) → ⊥) → extension ≡ Err NoTrack
           extension_13 far =
               extend_beyond σ x limit q (ranged σ q a) (fresh (omega arith)) (λ e. omega arith) free (limit_beyond limit _ far)
 
@@ -121,7 +122,7 @@ module _ (σ : Settings) (limit : Limit) (x : Train) (q : Extension) where
           pub extension_taken : InLimit limit (mine.end + q.length)
               → let longer : Authority =
               record { end = mine.end + q.length; goal = mine.end + q.length; start = mine.start; number = q.number; length = q.length } in
-              extension ≡ Passed (Extended (mine.end + q.length) false) (same x x.motion x.order longer x.marks)
+              extension ≡ Ok ((Extended (mine.end + q.length) false), (same x x.motion x.order longer x.marks))
           extension_taken near =
               extend_new σ x limit q (ranged σ q a) (fresh (omega arith)) (λ e. omega arith) free (limit_within limit _ near)
 
@@ -156,14 +157,14 @@ module _ (σ : Settings) (limit : Limit) (x : Train) (q : Extension) where
 
 -- ---- call back
 
-module _ (σ : Settings) (limit : Limit) (x : Train) (place : ℕ) where
-  abbrev calling : Verdict
+module _ (σ : Settings) (limit : Option ℕ) (x : Train) (place : ℕ) where
+  abbrev calling : Result (Values × Train) Refusal
   calling = verdict (decide σ limit x (CallBack place))
 
   -- "the end becomes a named place from reach to end, both included", whatever was pending
   pub call_back_moves : computable x ≡ true → reach x.figures x.motion x.order ≤ place → place ≤ x.authority.end
       → let nearer : Authority = record { end = place; goal = place; start = x.authority.start; number = x.authority.number; length = x.authority.length } in
-      calling ≡ Passed Zeros (same x x.motion x.order nearer x.marks)
+      calling ≡ Ok (Zeros, (same x x.motion x.order nearer x.marks))
   unfolding called_back
   call_back_moves computes low high =
       let ahead = head_reach x.figures x.motion x.order in
@@ -173,13 +174,13 @@ module _ (σ : Settings) (limit : Limit) (x : Train) (place : ℕ) where
   -- place is wanted, whatever was pending, and the end stays
   pub call_back_pends : computable x ≡ true → x.motion.head ≤ place → place < reach x.figures x.motion x.order → place ≤ x.authority.end
       → let waiting : Authority = record { end = x.authority.end; goal = place; start = x.authority.start; number = x.authority.number; length = x.authority.length } in
-      calling ≡ Passed Zeros (same x x.motion x.order waiting x.marks)
+      calling ≡ Ok (Zeros, (same x x.motion x.order waiting x.marks))
   unfolding called_back
   call_back_pends computes low short high =
       call_back_taken x place (call_back_tested x place computes ∙ (between_exactly _ _ place).1 (low, high)) ∙ (rw (lt-leb _ _ short))
 
   -- 14 "a place behind the head or beyond the end"
-  pub call_back_14 : (place < x.motion.head) ⊎ (x.authority.end < place) → calling ≡ TurnedDown BadPlace
+  pub call_back_14 : (place < x.motion.head) ⊎ (x.authority.end < place) → calling ≡ Err BadPlace
   call_back_14 h = by_test (call_back_allowed x place) (λ e. absurd (out (call_back_between x place e) h)) (λ e. call_back_refused x place e)
     where
       out : (x.motion.head ≤ place) × (place ≤ x.authority.end) → (place < x.motion.head) ⊎ (x.authority.end < place) → ⊥
@@ -189,25 +190,25 @@ module _ (σ : Settings) (limit : Limit) (x : Train) (place : ℕ) where
 -- ---- hold and lift
 
 -- "the emergency message from the next report on, and its withdrawal": always taken, and its mark alone; the order already given stays
-pub hold_marks : (σ : Settings) (limit : Limit) (x : Train)
-    → verdict (decide σ limit x Hold) ≡ Passed Zeros (same x x.motion x.order x.authority (record { held = true; penalty = x.marks.penalty }))
+pub hold_marks : (σ : Settings) (limit : Option ℕ) (x : Train)
+    → verdict (decide σ limit x Hold) ≡ Ok (Zeros, (same x x.motion x.order x.authority (record { held = true; penalty = x.marks.penalty })))
 unfolding first_of
 hold_marks σ limit x = refl
 
-pub lift_unmarks : (σ : Settings) (limit : Limit) (x : Train)
-    → verdict (decide σ limit x Lift) ≡ Passed Zeros (same x x.motion x.order x.authority (record { held = false; penalty = x.marks.penalty }))
+pub lift_unmarks : (σ : Settings) (limit : Option ℕ) (x : Train)
+    → verdict (decide σ limit x Lift) ≡ Ok (Zeros, (same x x.motion x.order x.authority (record { held = false; penalty = x.marks.penalty })))
 unfolding first_of
 lift_unmarks σ limit x = refl
 
 -- ---- a penalty brake
 
 -- document 02, (ii): "Lifting a hold does not shorten it"
-pub lift_brakes_on : (σ : Settings) (limit : Limit) (x : Train) (m : Motion) → x.marks.penalty ≡ true → 0 < m.speed
+pub lift_brakes_on : (σ : Settings) (limit : Option ℕ) (x : Train) (m : Motion) → x.marks.penalty ≡ true → 0 < m.speed
     → order_after σ (decide σ limit x Lift).after m ≡ Brake
 lift_brakes_on σ limit x m = penalty_order σ (decide σ limit x Lift).after m
 
 -- nor does any act but a report, whatever it does to the authority
-pub penalty_stays : (σ : Settings) (limit : Limit) (x : Train) (a : Act) → ((r : Reading) → a ≡ Report r → ⊥)
+pub penalty_stays : (σ : Settings) (limit : Option ℕ) (x : Train) (a : Act) → ((r : Reading) → a ≡ Report r → ⊥)
     → (decide σ limit x a).after.marks.penalty ≡ x.marks.penalty
 unfolding extended called_back
 penalty_stays σ limit x (Report r) other = absurd (other r refl)
@@ -240,7 +241,7 @@ pub record Leaves (a : Act) (x y : Train) : Type 0 where
   pub start : y.authority.start ≡ x.authority.start
   pub numbers : ((q : Extension) × (a ≡ Extend q) × (y ≡ extended x q)) ⊎ ((y.authority.number ≡ x.authority.number) × (y.authority.length ≡ x.authority.length))
 
-pub act_leaves : (σ : Settings) (limit : Limit) (x : Train) (a : Act) → Leaves a x (decide σ limit x a).after
+pub act_leaves : (σ : Settings) (limit : Option ℕ) (x : Train) (a : Act) → Leaves a x (decide σ limit x a).after
 unfolding reported extended called_back
 act_leaves σ limit x (Report r) =
     let same = settled_numbers x.authority _ _ _ in record { id = refl; start = same.start; numbers = inr (same.number, same.length) }

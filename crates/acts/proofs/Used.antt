@@ -1,7 +1,7 @@
 -- Numbers that were used: what an extension with one may come to, and that the last accepted one never goes back. It rests on the laws of each
 -- refusal (Sentences), and stands apart from them, so that a wrong definition is refused there.
 -- Assumes nothing.
-use Rattle.std.specs.Prelude.{None}
+use Rattle.std.specs.Prelude.{None, Option, ℕ, Err, Ok}
 use Prim.Native.Nat.{◌≤◌, ◌<◌}
 use mathlib.Core.Bool.{true}
 use mathlib.Core.Logic.{by_cases, ◌⊎◌, inl, inr}
@@ -18,16 +18,14 @@ use Rattle.calls.specs.Checks.{first_of}
 use Rattle.calls.specs.declared.Values.TheVariants.{Extended}
 use Rattle.train.specs.declared.Settings.{Settings}
 use Rattle.train.specs.declared.Train.{Train}
-use Rattle.train.specs.declared.Limit.{Limit}
-use Rattle.acts.specs.declared.Verdict.TheVariants.{TurnedDown, Passed}
 use Rattle.acts.specs.Acts.{request_in_range, extended}
 use Rattle.acts.specs.Decide.{decide, verdict}
 use Rattle.acts.proofs.Forms.{well_formed, ranged}
 use Rattle.acts.proofs.Sentences.{extension_10, extension_11, extension_12, extension_repeated, extension_accepted, act_leaves}
 
 -- a number above the starting one, up to the last accepted: refused, or the repeat that changes nothing
-pub extension_used : (σ : Settings) (limit : Limit) (x : Train) (q : Extension) → x.authority.start < q.number → q.number ≤ x.authority.number
-    → ((r : Refusal) × (verdict (decide σ limit x (Extend q)) ≡ TurnedDown r)) ⊎ (verdict (decide σ limit x (Extend q)) ≡ Passed (Extended x.authority.end true) x)
+pub extension_used : (σ : Settings) (limit : Option ℕ) (x : Train) (q : Extension) → x.authority.start < q.number → q.number ≤ x.authority.number
+    → ((r : Refusal) × (verdict (decide σ limit x (Extend q)) ≡ Err r)) ⊎ (verdict (decide σ limit x (Extend q)) ≡ Ok ((Extended x.authority.end true), x))
 extension_used σ limit x q above used =
     by_test (request_in_range σ q)
     (λ e.
@@ -42,7 +40,7 @@ extension_used σ limit x q above used =
     (λ e. inl (BadRequest, extension_10 σ limit x q (λ a. not_both (ranged σ q a) e)))
 
 -- the last accepted number never goes back
-pub number_onward : (σ : Settings) (limit : Limit) (x : Train) (a : Act) → first_of (decide σ limit x a).checks ≡ None
+pub number_onward : (σ : Settings) (limit : Option ℕ) (x : Train) (a : Act) → first_of (decide σ limit x a).checks ≡ None
     → x.authority.number ≤ (decide σ limit x a).after.authority.number
 number_onward σ limit x a passes = go (act_leaves σ limit x a).numbers
   where

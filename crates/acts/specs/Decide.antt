@@ -1,5 +1,5 @@
 -- Document 01, "Authorities" and "What is turned down", and document 02, (vi): what each act of a train on the line comes to.
-use Rattle.std.specs.Prelude.{ℕ, ◌+◌, Bool, true, false, not, ◌&&◌, List, [], ◌∷◌, eqb, Option, None, Some}
+use Rattle.std.specs.Prelude.{ℕ, ◌+◌, Bool, true, false, not, ◌&&◌, List, [], ◌∷◌, eqb, Option, None, Some, Result, Err, Ok}
 use Rattle.calls.specs.declared.Reading.{Reading}
 use Rattle.calls.specs.declared.Extension.{Extension}
 use Rattle.calls.specs.declared.Act.{Act}
@@ -11,9 +11,6 @@ use Rattle.calls.specs.declared.Values.TheVariants.{Ordered, Extended, Zeros}
 use Rattle.calls.specs.Checks.{Check, check, first_of}
 use Rattle.train.specs.declared.Settings.{Settings}
 use Rattle.train.specs.declared.Train.{Train}
-use Rattle.train.specs.declared.Limit.{Limit}
-use Rattle.acts.specs.declared.Verdict.{Verdict}
-use Rattle.acts.specs.declared.Verdict.TheVariants.{TurnedDown, Passed}
 use Rattle.train.specs.Record.{is_pending}
 use Rattle.train.specs.Track.{within_limit}
 use Rattle.train.specs.Report.{reach_of, reported, report_allowed}
@@ -32,7 +29,7 @@ reporting σ x r =
     record { checks = check (not (report_allowed σ x r)) NotAllowed ∷ []; gives = Ordered y.order (reach_of y); after = y }
 
 -- Extend: 10, 11, 12, repeat, 17, 13
-abbrev pub extending : Settings → Limit → Train → Extension → Ruling
+abbrev pub extending : Settings → Option ℕ → Train → Extension → Ruling
 extending σ limit x q =
     record {
       checks =
@@ -55,7 +52,7 @@ abbrev pub marking : Train → Bool → Ruling
 marking x held = record { checks = []; gives = Zeros; after = holding x held }
 
 -- any act of the train x with this limit
-abbrev pub decide : Settings → Limit → Train → Act → Ruling
+abbrev pub decide : Settings → Option ℕ → Train → Act → Ruling
 decide σ limit x (Report r) = reporting σ x r
 decide σ limit x (Extend q) = extending σ limit x q
 decide σ limit x (CallBack place) = calling_back x place
@@ -64,10 +61,10 @@ decide σ limit x Lift = marking x false
 
 -- ---- words of inner contracts
 
-abbrev pub verdict_by : Option Refusal → Ruling → Verdict
-verdict_by None d = Passed d.gives d.after
-verdict_by (Some r) d = TurnedDown r
+abbrev pub verdict_by : Option Refusal → Ruling → Result (Values × Train) Refusal
+verdict_by None d = Ok (d.gives, d.after)
+verdict_by (Some r) d = Err r
 
 -- a ruling, judged: the first check that applies turns the act down
-abbrev pub verdict : Ruling → Verdict
+abbrev pub verdict : Ruling → Result (Values × Train) Refusal
 verdict d = verdict_by (first_of d.checks) d

@@ -5,9 +5,5 @@
 use calls::{Refusal, Values};
 use train::Train;
 
-// What an act of a train comes to: turned down, or its checks passed, what it gives and the record after it.
-#[derive(Clone, Copy)]
-pub enum Verdict {
-    TurnedDown(Refusal),
-    Passed(Values, Train),
-}
+// What an act of a train comes to: its checks passed, what it gives and the record after it; or turned down.
+pub type Verdict = Result<(Values, Train), Refusal>;

@@ -92,12 +92,12 @@ fn report(s: Settings, x: Train, r: Reading) -> Verdict
     ensures { result ≡ verdict (reporting s x r) }
 {
     if !train_code::report_allowed(s, x, r) {
-        return Verdict::TurnedDown(Refusal::NotAllowed);
+        return Err(Refusal::NotAllowed);
     }
     let after = train_code::report_on(s, x, r);
     let y = after.train;
     let o = y.order;
-    Verdict::Passed(Values::Ordered(o, after.reach), y)
+    Ok((Values::Ordered(o, after.reach), y))
 }
 
 // Extend: a new number adds its length if the new end is within the limit, and the last accepted one again adds none. While a call back is
@@ -109,26 +109,26 @@ fn extend(s: Settings, limit: Limit, x: Train, q: Extension) -> Verdict
     let end = a.end;
     let length = q.length;
     if !request_in_range(s, q) {
-        return Verdict::TurnedDown(Refusal::BadRequest);
+        return Err(Refusal::BadRequest);
     }
     if is_old(a, q) {
-        return Verdict::TurnedDown(Refusal::OldNumber);
+        return Err(Refusal::OldNumber);
     }
     if q.number == a.number {
         if length != a.length {
-            return Verdict::TurnedDown(Refusal::OtherLength);
+            return Err(Refusal::OtherLength);
         }
-        return Verdict::Passed(Values::Extended(end, true), x);
+        return Ok((Values::Extended(end, true), x));
     }
     if a.goal != end {
-        return Verdict::TurnedDown(Refusal::Pending);
+        return Err(Refusal::Pending);
     }
     if !train_code::within(limit, end, length) {
-        return Verdict::TurnedDown(Refusal::NoTrack);
+        return Err(Refusal::NoTrack);
     }
     let y = grant(x, q);
     let b = y.authority;
-    Verdict::Passed(Values::Extended(b.end, false), y)
+    Ok((Values::Extended(b.end, false), y))
 }
 
 // Call back: the end becomes a place from reach to end, or one from the head on is wanted.
@@ -136,9 +136,9 @@ fn call_back(x: Train, place: u64) -> Verdict
     ensures { result ≡ verdict (calling_back x place) }
 {
     if !call_back_allowed(x, place) {
-        return Verdict::TurnedDown(Refusal::BadPlace);
+        return Err(Refusal::BadPlace);
     }
-    Verdict::Passed(Values::Zeros, call_back_to(x, place))
+    Ok((Values::Zeros, call_back_to(x, place)))
 }
 
 // An act of the train x with this limit. Hold is the emergency message, lift its withdrawal: both act from the next report on.
@@ -149,8 +149,8 @@ pub fn decide(s: Settings, limit: Limit, x: Train, a: Act) -> Verdict
         Act::Report(r) => report(s, x, r),
         Act::Extend(q) => extend(s, limit, x, q),
         Act::CallBack(place) => call_back(x, place),
-        Act::Hold => Verdict::Passed(Values::Zeros, with_held(x, true)),
-        Act::Lift => Verdict::Passed(Values::Zeros, with_held(x, false)),
+        Act::Hold => Ok((Values::Zeros, with_held(x, true))),
+        Act::Lift => Ok((Values::Zeros, with_held(x, false))),
     }
 }
 

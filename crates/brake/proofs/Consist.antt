@@ -1,5 +1,6 @@
 -- Laws of the brake figures.
 -- Assumes nothing.
+use Rattle.std.specs.Prelude.{Option, Some, None}
 use Prim.Native.Nat.{ℕ, ◌+◌, ◌*◌, ◌≤◌, ◌<◌}
 use mathlib.Core.Bool.{true, false}
 use mathlib.Core.Logic.{by_cases}
@@ -10,9 +11,6 @@ use native.Mathlib.Omega.{arith}
 use lib.Dec.{T, leb, lit≤, lit<}
 use borrow.Author.Tests.{ne_eqb}
 use Rattle.brake.specs.declared.Figures.{Figures}
-use Rattle.brake.specs.declared.CarFound.{CarFound}
-use Rattle.brake.specs.declared.CarFound.TheVariants.{Rated, NoClass}
-use Rattle.brake.specs.declared.FiguresFound.TheVariants.{Given, NoFigures}
 use Rattle.brake.specs.Consist.{greatest_full, Sound, car_of, full_brake, application_time, application_cycles, sheet_entry, entry_for, brake_cycles, figures_with, figures_by, figures_of}
 use Rattle.logic.specs.Rounding.{ceil_div}
 use Rattle.logic.proofs.Tests.{by_test}
@@ -27,19 +25,19 @@ length_within l e = (between_both 1 greatest_length l e).1
 
 -- ---- load class
 
-pub car_loaded : (n : ℕ) → n ≡ 1 → car_of n ≡ Rated 35750 263000
+pub car_loaded : (n : ℕ) → n ≡ 1 → car_of n ≡ Some (35750, 263000)
 unfolding car_of
 car_loaded n e = rw e refl
 
-pub car_empty : (n : ℕ) → n ≡ 2 → car_of n ≡ Rated 10575 64000
+pub car_empty : (n : ℕ) → n ≡ 2 → car_of n ≡ Some (10575, 64000)
 unfolding car_of
 car_empty n e = rw e refl
 
-pub car_unknown : (n : ℕ) → n ≡ 3 → car_of n ≡ Rated 23338 263000
+pub car_unknown : (n : ℕ) → n ≡ 3 → car_of n ≡ Some (23338, 263000)
 unfolding car_of
 car_unknown n e = rw e refl
 
-pub car_none : (n : ℕ) → (n ≡ 1 → ⊥) → (n ≡ 2 → ⊥) → (n ≡ 3 → ⊥) → car_of n ≡ NoClass
+pub car_none : (n : ℕ) → (n ≡ 1 → ⊥) → (n ≡ 2 → ⊥) → (n ≡ 3 → ⊥) → car_of n ≡ None
 unfolding car_of
 car_none n a b c = rw (ne_eqb n 1 a, ne_eqb n 2 b, ne_eqb n 3 c, car_of)
 
@@ -53,9 +51,9 @@ pub record Car (force mass : ℕ) : Type 0 where
 computed : (force mass : ℕ) → T (leb force 35750) → T (leb 1 mass) → T (leb 87021 (full_brake force mass)) → T (leb (full_brake force mass) greatest_full) → Car force mass
 computed force mass a b c d = record { force_within = lit≤ a; mass_positive = lit≤ b; full_least = lit≤ c; full_most = lit≤ d }
 
-abbrev IsCar : CarFound → Type 0
-IsCar (Rated force mass) = Car force mass
-IsCar NoClass = Unit {0}
+abbrev IsCar : Option (ℕ × ℕ) → Type 0
+IsCar (Some (force, mass)) = Car force mass
+IsCar None = Unit {0}
 
 is_car : (n : ℕ) → IsCar (car_of n)
 unfolding full_brake
@@ -68,7 +66,7 @@ is_car n =
     (λ e. subst IsCar (sym (car_unknown n e)) (computed 23338 263000 tt tt tt tt))
     (λ c. subst IsCar (sym (car_none n a b c)) tt)))
 
-pub car_bounds : (n : ℕ) {force mass : ℕ} → car_of n ≡ Rated force mass → Car force mass
+pub car_bounds : (n : ℕ) {force mass : ℕ} → car_of n ≡ Some (force, mass) → Car force mass
 car_bounds n e = subst IsCar e (is_car n)
 
 -- ---- cycles
@@ -95,7 +93,7 @@ cycles_positive l = formula_positive (20 * entry_for l)
 
 -- ---- figures
 
-pub figures_out : (load l : ℕ) → length_in_range l ≡ false → figures_of load l ≡ NoFigures
+pub figures_out : (load l : ℕ) → length_in_range l ≡ false → figures_of load l ≡ None
 unfolding figures_of
 figures_out load l e = rw (e, figures_of)
 
@@ -103,16 +101,16 @@ figures_in : (load l : ℕ) → length_in_range l ≡ true → figures_of load l
 unfolding figures_of
 figures_in load l e = rw (e, figures_of)
 
-pub figures_none : (load l : ℕ) → car_of load ≡ NoClass → figures_of load l ≡ NoFigures
+pub figures_none : (load l : ℕ) → car_of load ≡ None → figures_of load l ≡ None
 unfolding figures_by
 figures_none load l e =
     by_test (length_in_range l)
-    (λ t. figures_in load l t ∙ ap (λ (f : CarFound). figures_by f l) e)
+    (λ t. figures_in load l t ∙ ap (λ (f : Option (ℕ × ℕ)). figures_by f l) e)
     (λ t. figures_out load l t)
 
-pub figures_given : (load l : ℕ) {force mass : ℕ} → length_in_range l ≡ true → car_of load ≡ Rated force mass → figures_of load l ≡ Given (figures_with force mass l)
+pub figures_given : (load l : ℕ) {force mass : ℕ} → length_in_range l ≡ true → car_of load ≡ Some (force, mass) → figures_of load l ≡ Some (figures_with force mass l)
 unfolding figures_by
-figures_given load l t e = figures_in load l t ∙ ap (λ (f : CarFound). figures_by f l) e
+figures_given load l t e = figures_in load l t ∙ ap (λ (f : Option (ℕ × ℕ)). figures_by f l) e
 
 sound_with : (force mass l : ℕ) → Car force mass → l ≤ greatest_length → Sound (figures_with force mass l)
 unfolding figures_with
@@ -129,19 +127,19 @@ sound_with force mass l car h =
       full_within = car.full_most;
     }
 
-sound_by : (f : CarFound) (l : ℕ) (k : Figures) → IsCar f → l ≤ greatest_length → figures_by f l ≡ Given k → Sound k
+sound_by : (f : Option (ℕ × ℕ)) (l : ℕ) (k : Figures) → IsCar f → l ≤ greatest_length → figures_by f l ≡ Some k → Sound k
 unfolding figures_by
-sound_by NoClass l k car h e = let z : ◌≡◌ {A = ℕ} 0 1 = cc in absurd (omega arith)
-sound_by (Rated force mass) l k car h e = let q : figures_with force mass l ≡ k = cc in subst Sound q (sound_with force mass l car h)
+sound_by None l k car h e = let z : ◌≡◌ {A = ℕ} 0 1 = cc in absurd (omega arith)
+sound_by (Some (force, mass)) l k car h e = let q : figures_with force mass l ≡ k = cc in subst Sound q (sound_with force mass l car h)
 
 -- whatever figures a consist is given, they are sound: 1 ≤ j ≤ B, and B within its greatest
-pub given_sound : (load l : ℕ) (k : Figures) → figures_of load l ≡ Given k → Sound k
+pub given_sound : (load l : ℕ) (k : Figures) → figures_of load l ≡ Some k → Sound k
 given_sound load l k e =
     by_test (length_in_range l)
     (λ t. sound_by (car_of load) l k (is_car load) (length_within l t) (sym (figures_in load l t) ∙ e))
     (λ t. let z : ◌≡◌ {A = ℕ} 0 1 = cc (figures_out load l t) in absurd (omega arith))
 
-pub given_length : (load l : ℕ) (k : Figures) → figures_of load l ≡ Given k → l ≤ greatest_length
+pub given_length : (load l : ℕ) (k : Figures) → figures_of load l ≡ Some k → l ≤ greatest_length
 given_length load l k e =
     by_test (length_in_range l)
     (λ t. length_within l t)

@@ -1,18 +1,17 @@
 -- Document 01, "Line and consist", and document 02, (i), said a second time: in products and comparisons, where the definitions divide and choose.
 -- A definition that is wrong, with code that follows it, is refused here.
 -- Assumes nothing.
+use Rattle.std.specs.Prelude.{Option, Some, None}
+use Rattle.std.proofs.lemmas.Option.{none-some, some_pair_parts}
 use Prim.Native.Nat.{ℕ, ◌+◌, ◌*◌, ◌/◌, ◌≤◌}
 use mathlib.Core.Bool.{true}
 use mathlib.Core.Logic.{by_cases, ◌↔◌}
-use mathlib.Core.Path.{◌≡◌, refl, ◌∙◌, subst}
+use mathlib.Core.Path.{◌≡◌, refl, ◌∙◌, sym, subst}
 use native.Mathlib.Decide.{ℕ_discrete}
 use native.Mathlib.Nat.{le_trans, mul-le-mul, mul-le-mul_left, le-div_iff_mul-le, div-eq_of_lt-le}
 use native.Mathlib.Omega.{arith}
 use lib.Dec.{lit<}
 use Rattle.brake.specs.declared.Figures.{Figures}
-use Rattle.brake.specs.declared.CarFound.{CarFound}
-use Rattle.brake.specs.declared.CarFound.TheVariants.{Rated, NoClass}
-use Rattle.brake.specs.declared.FiguresFound.TheVariants.{Given, NoFigures}
 use Rattle.brake.specs.Consist.{car_of, full_brake, application_time, application_cycles, sheet_entry, entry_for, brake_cycles, figures_with, figures_of}
 use Rattle.brake.proofs.Consist.{car_loaded, car_empty, car_unknown, car_none, car_bounds, formula_positive, cycles_positive, figures_out, figures_none, figures_given}
 use Rattle.logic.proofs.Tests.{by_test}
@@ -47,26 +46,26 @@ pub record Described (load l : ℕ) (k : Figures) : Type 0 where
   -- "Growth j is B divided by the cycles, rounded down."
   pub growth : RoundedDown k.growth k.full cycles
 
-listed : (load force mass : ℕ) → car_of load ≡ Rated force mass → PerCar load force mass
+listed : (load force mass : ℕ) → car_of load ≡ Some (force, mass) → PerCar load force mass
 listed load force mass e =
     by_cases (ℕ_discrete load 1)
-    (λ one. let car = car_loaded load one in let f : force ≡ 35750 = cc in let m : mass ≡ 263000 = cc in rw (one, f, m) loaded)
+    (λ one. let car = some_pair_parts force 35750 mass 263000 (sym e ∙ car_loaded load one) in rw (one, car.0, car.1) loaded)
     (λ a. by_cases (ℕ_discrete load 2)
-    (λ two. let car = car_empty load two in let f : force ≡ 10575 = cc in let m : mass ≡ 64000 = cc in rw (two, f, m) empty)
+    (λ two. let car = some_pair_parts force 10575 mass 64000 (sym e ∙ car_empty load two) in rw (two, car.0, car.1) empty)
     (λ b. by_cases (ℕ_discrete load 3)
-    (λ three. let car = car_unknown load three in let f : force ≡ 23338 = cc in let m : mass ≡ 263000 = cc in rw (three, f, m) unknown)
-    (λ c. let car = car_none load a b c in let z : ◌≡◌ {A = ℕ} 0 1 = cc in absurd (omega arith))))
+    (λ three. let car = some_pair_parts force 23338 mass 263000 (sym e ∙ car_unknown load three) in rw (three, car.0, car.1) unknown)
+    (λ c. absurd (none-some (force, mass) (sym (car_none load a b c) ∙ e)))))
 
-rated : {load force mass : ℕ} → PerCar load force mass → car_of load ≡ Rated force mass
+rated : {load force mass : ℕ} → PerCar load force mass → car_of load ≡ Some (force, mass)
 rated loaded = car_loaded 1 refl
 rated empty = car_empty 2 refl
 rated unknown = car_unknown 3 refl
 
 -- what a car of the list and a length in range give
-given : {load l force mass : ℕ} → 1 ≤ l → l ≤ 10000 → PerCar load force mass → figures_of load l ≡ Given (figures_with force mass l)
+given : {load l force mass : ℕ} → 1 ≤ l → l ≤ 10000 → PerCar load force mass → figures_of load l ≡ Some (figures_with force mass l)
 given {load} {l} shortest longest car = figures_given load l ((train_length l).1 (shortest, longest)) (rated car)
 
-described : (load l force mass : ℕ) → car_of load ≡ Rated force mass → length_in_range l ≡ true → Described load l (figures_with force mass l)
+described : (load l force mass : ℕ) → car_of load ≡ Some (force, mass) → length_in_range l ≡ true → Described load l (figures_with force mass l)
 unfolding figures_with full_brake brake_cycles entry_for sheet_entry application_cycles application_time
 described load l force mass car within =
     let ends = (train_length l).0 within in
@@ -91,35 +90,35 @@ cycles_described {l = l} d =
     (rounded_once d.cycles (application_time (20 * d.entry)) 100000000 (lit< tt) d.application)
 
 -- a consist is given the figures that these sentences describe, and no others
-pub figures_exactly : (load l : ℕ) (k : Figures) → (figures_of load l ≡ Given k) ↔ Described load l k
+pub figures_exactly : (load l : ℕ) (k : Figures) → (figures_of load l ≡ Some k) ↔ Described load l k
 unfolding figures_with full_brake
 figures_exactly load l k = (found (car_of load) refl, only)
   where
-    found : (car : CarFound) → car_of load ≡ car → figures_of load l ≡ Given k → Described load l k
-    found NoClass none e = let nothing = figures_none load l none in let z : ◌≡◌ {A = ℕ} 0 1 = cc in absurd (omega arith)
-    found (Rated force mass) car e =
+    found : (car : Option (ℕ × ℕ)) → car_of load ≡ car → figures_of load l ≡ Some k → Described load l k
+    found None none e = let nothing = figures_none load l none in let z : ◌≡◌ {A = ℕ} 0 1 = cc in absurd (omega arith)
+    found (Some (force, mass)) car e =
         by_test (length_in_range l)
         (λ within.
         let same : figures_with force mass l ≡ k = cc (figures_given load l within car) in
         subst (Described load l) same (described load l force mass car within))
         (λ out. let nothing = figures_out load l out in let z : ◌≡◌ {A = ℕ} 0 1 = cc in absurd (omega arith))
 
-    only : Described load l k → figures_of load l ≡ Given k
+    only : Described load l k → figures_of load l ≡ Some k
     only d =
         let cycles = cycles_described d in
         let full : full_brake d.force d.mass ≡ k.full = div-eq_of_lt-le d.mass d.full_brake_lem.within d.full_brake_lem.next_exceeds in
         let growth : full_brake d.force d.mass / brake_cycles l ≡ k.growth =
         rw (full, cycles) (div-eq_of_lt-le d.cycles d.growth.within d.growth.next_exceeds) in
-        given d.shortest d.longest d.per_car ∙ (λ z. Given (record { full = full z; growth = growth z }))
+        given d.shortest d.longest d.per_car ∙ (λ z. Some (record { full = full z; growth = growth z }))
 
 -- "Lengths 0 and 10,001 and classes 0 and 4 are 4": a consist has no figures exactly where its length or its load class is out of range
-pub no_figures_exactly : (load l : ℕ) → (figures_of load l ≡ NoFigures) ↔ (¬ ((1 ≤ l) × (l ≤ 10000) × (1 ≤ load) × (load ≤ 3)))
+pub no_figures_exactly : (load l : ℕ) → (figures_of load l ≡ None) ↔ (¬ ((1 ≤ l) × (l ≤ 10000) × (1 ≤ load) × (load ≤ 3)))
 no_figures_exactly load l = (only, out)
   where
-    has_figures : {n force mass : ℕ} → figures_of load l ≡ NoFigures → 1 ≤ l → l ≤ 10000 → load ≡ n → PerCar n force mass → ⊥
+    has_figures : {n force mass : ℕ} → figures_of load l ≡ None → 1 ≤ l → l ≤ 10000 → load ≡ n → PerCar n force mass → ⊥
     has_figures none shortest longest class car = let some = given shortest longest car in let z : ◌≡◌ {A = ℕ} 0 1 = cc in omega arith
 
-    only : figures_of load l ≡ NoFigures → ¬ ((1 ≤ l) × (l ≤ 10000) × (1 ≤ load) × (load ≤ 3))
+    only : figures_of load l ≡ None → ¬ ((1 ≤ l) × (l ≤ 10000) × (1 ≤ load) × (load ≤ 3))
     only none (shortest, longest, least, most) =
         by_cases (ℕ_discrete load 1)
         (λ one. has_figures none shortest longest one loaded)
@@ -127,7 +126,7 @@ no_figures_exactly load l = (only, out)
         (λ two. has_figures none shortest longest two empty)
         (λ b. has_figures none shortest longest (omega arith) unknown))
 
-    out : ¬ ((1 ≤ l) × (l ≤ 10000) × (1 ≤ load) × (load ≤ 3)) → figures_of load l ≡ NoFigures
+    out : ¬ ((1 ≤ l) × (l ≤ 10000) × (1 ≤ load) × (load ≤ 3)) → figures_of load l ≡ None
     out h =
         by_test (length_in_range l)
         (λ within.
@@ -147,7 +146,7 @@ no_fewer_cycles l =
     ceil_mono (lit< tt) (omega arith)
 
 -- nor a quicker brake: its level grows by no more than the formula would give
-pub no_quicker_brake : (load l : ℕ) (k : Figures) → figures_of load l ≡ Given k → k.growth ≤ k.full / application_cycles l
+pub no_quicker_brake : (load l : ℕ) (k : Figures) → figures_of load l ≡ Some k → k.growth ≤ k.full / application_cycles l
 no_quicker_brake load l k e =
     let d = (figures_exactly load l k).0 e in
     let few : application_cycles l ≤ d.cycles = rw (cycles_described d) at (no_fewer_cycles l) in

@@ -1,20 +1,16 @@
 -- Document 01, "Line and consist": the brake figures of a consist, from its load class and its length in feet.
-use Rattle.std.specs.Prelude.{ℕ, ◌+◌, ◌*◌, ◌/◌, ◌≤◌, cond, eqb}
+use Rattle.std.specs.Prelude.{ℕ, ◌+◌, ◌*◌, ◌/◌, ◌≤◌, cond, eqb, Option, Some, None}
 use Rattle.brake.specs.declared.Figures.{Figures}
-use Rattle.brake.specs.declared.CarFound.{CarFound}
-use Rattle.brake.specs.declared.CarFound.TheVariants.{Rated, NoClass}
-use Rattle.brake.specs.declared.FiguresFound.{FiguresFound}
-use Rattle.brake.specs.declared.FiguresFound.TheVariants.{Given, NoFigures}
 use Rattle.logic.specs.Rounding.{ceil_div}
 use Rattle.ranges.specs.Ranges.{length_in_range}
 
 -- the load class alone decides force (lbf) and mass (lb) per car: 1 loaded, 2 empty, 3 unknown
-unfoldable pub car_of : ℕ → CarFound
+unfoldable pub car_of : ℕ → Option (ℕ × ℕ)
 car_of load =
-    cond (eqb load 1) (Rated 35750 263000)
-    (cond (eqb load 2) (Rated 10575 64000)
-    (cond (eqb load 3) (Rated 23338 263000)
-    NoClass))
+    cond (eqb load 1) (Some (35750, 263000))
+    (cond (eqb load 2) (Some (10575, 64000))
+    (cond (eqb load 3) (Some (23338, 263000))
+    None))
 
 -- full brake B, with standard gravity
 unfoldable pub full_brake : ℕ → ℕ → ℕ
@@ -45,13 +41,13 @@ unfoldable pub figures_with : ℕ → ℕ → ℕ → Figures
 figures_with force mass l = record { full = full_brake force mass; growth = full_brake force mass / brake_cycles l }
 
 -- the same for what a load class says of its cars
-unfoldable pub figures_by : CarFound → ℕ → FiguresFound
-figures_by NoClass l = NoFigures
-figures_by (Rated force mass) l = Given (figures_with force mass l)
+unfoldable pub figures_by : Option (ℕ × ℕ) → ℕ → Option Figures
+figures_by None l = None
+figures_by (Some (force, mass)) l = Some (figures_with force mass l)
 
 -- the figures of a consist, or none where its length or its load class is out of range (answer 4)
-unfoldable pub figures_of : ℕ → ℕ → FiguresFound
-figures_of load l = cond (length_in_range l) (figures_by (car_of load) l) NoFigures
+unfoldable pub figures_of : ℕ → ℕ → Option Figures
+figures_of load l = cond (length_in_range l) (figures_by (car_of load) l) None
 
 -- full brake of class 2, the highest of the three
 abbrev pub greatest_full : ℕ

@@ -17,29 +17,16 @@ pub struct Figures {
     pub growth: u64,
 }
 
-// What a load class says of each car: brake force in lbf and mass in lb.
-#[derive(Clone, Copy)]
-pub enum CarFound {
-    Rated(u64, u64),
-    NoClass,
-}
-
-// The figures of a consist, or none: answer 4.
-#[derive(Clone, Copy)]
-pub enum FiguresFound {
-    Given(Figures),
-    NoFigures,
-}
-
-// The load class alone decides force and mass. A car of unknown load has a force of its own, and the mass of a loaded car.
-fn car_of(load: u64) -> CarFound
+// The load class alone decides each car's brake force in lbf and its mass in lb. A car of unknown load has a force of its own, and the mass of a
+// loaded car.
+fn car_of(load: u64) -> Option<(u64, u64)>
     ensures { result ≡ car_of load }
 {
     match load {
-        1 => CarFound::Rated(35750, 263000),
-        2 => CarFound::Rated(10575, 64000),
-        3 => CarFound::Rated(23338, 263000),
-        _ => CarFound::NoClass,
+        1 => Some((35750, 263000)),
+        2 => Some((10575, 64000)),
+        3 => Some((23338, 263000)),
+        _ => None,
     }
 }
 
@@ -68,22 +55,22 @@ fn brake_cycles(length: u64) -> u64
 }
 
 // The figures that a train enters with, or none for a load class or a length out of range.
-pub fn figures_of(load: u64, length: u64) -> FiguresFound
+pub fn figures_of(load: u64, length: u64) -> Option<Figures>
     ensures { result ≡ figures_of load length }
 {
     if !ranges::length_in_range(length) {
-        return FiguresFound::NoFigures;
+        return None;
     }
     match car_of(load) {
-        CarFound::Rated(force, mass) => {
+        Some((force, mass)) => {
             // Standard gravity, 9.80665 m/s², is 980,665 µm/s in a cycle.
             let full = force * 980665 / mass;
             let cycles = brake_cycles(length);
-            FiguresFound::Given(Figures {
+            Some(Figures {
                 full: full,
                 growth: full / cycles,
             })
         }
-        CarFound::NoClass => FiguresFound::NoFigures,
+        None => None,
     }
 }

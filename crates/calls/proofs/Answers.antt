@@ -1,5 +1,6 @@
 -- Which answers accept, and the numbers of the refusals.
 -- Assumes nothing.
+use Rattle.std.specs.Prelude.{Ok}
 use Prim.Native.Nat.{◌≤◌}
 use mathlib.Core.Bool.{false}
 use mathlib.Core.Path.{◌≡◌, refl}
@@ -8,12 +9,11 @@ use lib.Dec.{eqb}
 use borrow.Author.Tests.{ne_eqb}
 use Rattle.calls.specs.declared.Refusal.{Refusal}
 use Rattle.calls.specs.declared.Refusal.TheVariants.{BadLine, OutOfTurn, BadSetting, BadEntry, OnLine, LineFull, BadHead, NoTrain, NotAllowed, BadRequest, OldNumber, OtherLength, NoTrack, BadPlace, NotLeaving, NoRight, Pending}
-use Rattle.calls.specs.declared.Answer.TheVariants.{Accepted}
 use Rattle.calls.specs.declared.Values.{Values}
 use Rattle.calls.specs.declared.Values.TheVariants.{Entered, Ordered, Extended, Zeros}
 use Rattle.calls.specs.Answers.{refusal_number, numbers_of}
 
-pub accepted_0 : (v : Values) → (numbers_of (Accepted v)).number ≡ 0
+pub accepted_0 : (v : Values) → (numbers_of (Ok v)).number ≡ 0
 accepted_0 (Entered full growth end) = refl
 accepted_0 (Ordered o r) = refl
 accepted_0 (Extended end repeat) = refl

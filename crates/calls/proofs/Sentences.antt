@@ -1,6 +1,7 @@
 -- Document 01, "The session program", and document 02, (iii), said a second time, for every number: what each row of numbers asks, and what
 -- each accepted answer prints. Rows, requests and answers are written out. A wrong definition is refused here, whatever the code.
 -- Assumes nothing.
+use Rattle.std.specs.Prelude.{Some, None, Ok}
 use Prim.Native.Nat.{ℕ, ◌≤◌, ◌<◌}
 use mathlib.Core.Bool.{true, false, cond}
 use mathlib.Core.List.{List, [], ◌∷◌}
@@ -16,8 +17,6 @@ use Rattle.calls.specs.declared.Call.TheVariants.{Enter, Own, TakeOff}
 use Rattle.calls.specs.declared.Ask.{Ask}
 use Rattle.calls.specs.declared.Ask.TheVariants.{Open, OnTable}
 use Rattle.calls.specs.declared.Request.{Request}
-use Rattle.calls.specs.declared.RequestRead.TheVariants.{Read, Unreadable}
-use Rattle.calls.specs.declared.Answer.TheVariants.{Accepted}
 use Rattle.calls.specs.declared.Values.TheVariants.{Entered, Ordered, Extended, Zeros}
 use Rattle.calls.specs.Answers.{numbers, numbers_of}
 use Rattle.calls.specs.Requests.{all_zero, request, read_as, request_of}
@@ -39,8 +38,8 @@ AllZero (n ∷ ns) = (n ≡ 0) × AllZero ns
 
 -- "Unused numbers are 0": a row is read as r where they are, and otherwise it is unreadable. The caller is none of them.
 pub record ReadWhere (unused row : List ℕ) (r : Request) : Type 0 where
-  pub zeros : AllZero unused → request_of row ≡ Read r
-  pub others : (AllZero unused → ⊥) → request_of row ≡ Unreadable
+  pub zeros : AllZero unused → request_of row ≡ Some r
+  pub others : (AllZero unused → ⊥) → request_of row ≡ None
 
 all_zero_lem : (ns : List ℕ) → AllZero ns → all_zero ns ≡ true
 unfolding all_zero
@@ -52,7 +51,7 @@ unfolding all_zero
 zero_all [] e = tt
 zero_all (n ∷ ns) e = let two = both (eqb n 0) (all_zero ns) e in (eqb-true n 0 two.0, zero_all ns two.1)
 
-read_where : (unused row : List ℕ) (r : Request) → request_of row ≡ cond (all_zero unused) (Read r) Unreadable → ReadWhere unused row r
+read_where : (unused row : List ℕ) (r : Request) → request_of row ≡ cond (all_zero unused) (Some r) None → ReadWhere unused row r
 read_where unused row r e =
     record {
       zeros = λ z. e ∙ rw (all_zero_lem unused z);
@@ -104,7 +103,7 @@ module _ (a b c d e n : ℕ) where
   take_off_row = read_where _ _ _ refl
 
   -- "Any other code ... is answer 1"
-  pub other_row : (code : ℕ) → (code < 1) ⊎ (8 < code) → request_of (code ∷ a ∷ b ∷ c ∷ d ∷ e ∷ n ∷ []) ≡ Unreadable
+  pub other_row : (code : ℕ) → (code < 1) ⊎ (8 < code) → request_of (code ∷ a ∷ b ∷ c ∷ d ∷ e ∷ n ∷ []) ≡ None
   unfolding request_of
   other_row code out =
       rw (
@@ -125,23 +124,23 @@ module _ (a b c d e n : ℕ) where
 -- ---- answers
 
 -- "Enter gives B, j and end"
-pub entered_answer : (full growth end : ℕ) → numbers_of (Accepted (Entered full growth end)) ≡ record { number = 0; first = full; second = growth; third = end }
+pub entered_answer : (full growth end : ℕ) → numbers_of (Ok (Entered full growth end)) ≡ record { number = 0; first = full; second = growth; third = end }
 entered_answer full growth end = refl
 
 -- "report gives 1 drive or 2 brake, cap (0 with brake), reach"
-pub driven_answer : (c reach : ℕ) → numbers_of (Accepted (Ordered (Drive c) reach)) ≡ record { number = 0; first = 1; second = c; third = reach }
+pub driven_answer : (c reach : ℕ) → numbers_of (Ok (Ordered (Drive c) reach)) ≡ record { number = 0; first = 1; second = c; third = reach }
 driven_answer c reach = refl
 
-pub braked_answer : (reach : ℕ) → numbers_of (Accepted (Ordered Brake reach)) ≡ record { number = 0; first = 2; second = 0; third = reach }
+pub braked_answer : (reach : ℕ) → numbers_of (Ok (Ordered Brake reach)) ≡ record { number = 0; first = 2; second = 0; third = reach }
 braked_answer reach = refl
 
 -- "extend gives end, 1 for a repeat, 0"
-pub extended_answer : (end : ℕ) → numbers_of (Accepted (Extended end false)) ≡ record { number = 0; first = end; second = 0; third = 0 }
+pub extended_answer : (end : ℕ) → numbers_of (Ok (Extended end false)) ≡ record { number = 0; first = end; second = 0; third = 0 }
 extended_answer end = refl
 
-pub repeated_answer : (end : ℕ) → numbers_of (Accepted (Extended end true)) ≡ record { number = 0; first = end; second = 1; third = 0 }
+pub repeated_answer : (end : ℕ) → numbers_of (Ok (Extended end true)) ≡ record { number = 0; first = end; second = 1; third = 0 }
 repeated_answer end = refl
 
 -- "the rest zeros"
-pub zeros_answer : numbers_of (Accepted Zeros) ≡ record { number = 0; first = 0; second = 0; third = 0 }
+pub zeros_answer : numbers_of (Ok Zeros) ≡ record { number = 0; first = 0; second = 0; third = 0 }
 zeros_answer = refl

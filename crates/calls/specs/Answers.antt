@@ -1,10 +1,9 @@
 -- Document 01, "What is turned down" and "The session program": the number and the three values of each answer.
-use Rattle.std.specs.Prelude.{ℕ, cond}
+use Rattle.std.specs.Prelude.{ℕ, cond, Result, Ok, Err}
+use Rattle.calls.specs.declared.Values.{Values}
 use Rattle.motion.specs.Orders.{order_number, order_cap}
 use Rattle.calls.specs.declared.Refusal.{Refusal}
 use Rattle.calls.specs.declared.Refusal.TheVariants.{BadLine, OutOfTurn, BadSetting, BadEntry, OnLine, LineFull, BadHead, NoTrain, NotAllowed, BadRequest, OldNumber, OtherLength, NoTrack, BadPlace, NotLeaving, NoRight, Pending}
-use Rattle.calls.specs.declared.Answer.{Answer}
-use Rattle.calls.specs.declared.Answer.TheVariants.{Accepted, Refused}
 use Rattle.calls.specs.declared.Values.TheVariants.{Entered, Ordered, Extended, Zeros}
 use Rattle.calls.specs.declared.Numbers.{Numbers}
 
@@ -48,13 +47,13 @@ abbrev pub numbers : ℕ → ℕ → ℕ → ℕ → Numbers
 numbers n a b c = record { number = n; first = a; second = b; third = c }
 
 -- Answer 0 is acceptance; a refusal gives its number and zeros.
-abbrev pub numbers_of : Answer → Numbers
+abbrev pub numbers_of : Result Values Refusal → Numbers
 -- enter: B, j, end
-numbers_of (Accepted (Entered full growth end)) = numbers 0 full growth end
+numbers_of (Ok (Entered full growth end)) = numbers 0 full growth end
 -- report: 1 drive or 2 brake, cap (0 with brake), reach
-numbers_of (Accepted (Ordered o r)) = numbers 0 (order_number o) (order_cap o) r
+numbers_of (Ok (Ordered o r)) = numbers 0 (order_number o) (order_cap o) r
 -- extend: end, 1 for a repeat
-numbers_of (Accepted (Extended end repeat)) = numbers 0 end (cond repeat 1 0) 0
+numbers_of (Ok (Extended end repeat)) = numbers 0 end (cond repeat 1 0) 0
 -- the rest: zeros
-numbers_of (Accepted Zeros) = numbers 0 0 0 0
-numbers_of (Refused r) = numbers (refusal_number r) 0 0 0
+numbers_of (Ok Zeros) = numbers 0 0 0 0
+numbers_of (Err r) = numbers (refusal_number r) 0 0 0

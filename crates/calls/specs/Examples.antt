@@ -1,19 +1,18 @@
 -- Worked values: the refusals beside document 01's numbers, and document 02's. What the definitions give equals what stands here
 -- (proofs/Examples: answered).
-use Rattle.std.specs.Prelude.{ℕ, List, [], ◌∷◌}
+use Rattle.std.specs.Prelude.{ℕ, List, [], ◌∷◌, Result, Err}
+use Rattle.calls.specs.declared.Values.{Values}
 use Rattle.calls.specs.declared.Refusal.{Refusal}
 use Rattle.calls.specs.declared.Refusal.TheVariants.{BadLine, OutOfTurn, BadSetting, BadEntry, OnLine, LineFull, BadHead, NoTrain, NotAllowed, BadRequest, OldNumber, OtherLength, NoTrack, BadPlace, NotLeaving, NoRight, Pending}
-use Rattle.calls.specs.declared.Answer.{Answer}
-use Rattle.calls.specs.declared.Answer.TheVariants.{Refused}
 use Rattle.calls.specs.declared.Numbers.{Numbers}
 
 pub record Answered : Type 0 where
-  pub answer : Answer
+  pub answer : Result Values Refusal
   pub printed : Numbers
 
 -- a refusal gives its number and zeros
 abbrev pub refusal : Refusal → ℕ → Answered
-refusal r n = record { answer = Refused r; printed = record { number = n; first = 0; second = 0; third = 0 } }
+refusal r n = record { answer = Err r; printed = record { number = n; first = 0; second = 0; third = 0 } }
 
 abbrev pub answers : List Answered
 answers =

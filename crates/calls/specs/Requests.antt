@@ -1,6 +1,6 @@
 -- Document 01, "The session program", and document 02, (iii): the codes of the calls and the numbers that each has, in a row with the code
 -- first and the caller last.
-use Rattle.std.specs.Prelude.{ℕ, Bool, true, cond, ◌&&◌, List, [], ◌∷◌, eqb, get_or, take, drop}
+use Rattle.std.specs.Prelude.{ℕ, Bool, true, cond, ◌&&◌, List, [], ◌∷◌, eqb, get_or, take, drop, Option, Some, None}
 use Rattle.calls.specs.declared.Opening.{Opening}
 use Rattle.calls.specs.declared.Entry.{Entry}
 use Rattle.calls.specs.declared.Reading.{Reading}
@@ -10,8 +10,6 @@ use Rattle.calls.specs.declared.Call.TheVariants.{Enter, Own, TakeOff}
 use Rattle.calls.specs.declared.Ask.{Ask}
 use Rattle.calls.specs.declared.Ask.TheVariants.{Open, OnTable}
 use Rattle.calls.specs.declared.Request.{Request}
-use Rattle.calls.specs.declared.RequestRead.{RequestRead}
-use Rattle.calls.specs.declared.RequestRead.TheVariants.{Read, Unreadable}
 
 abbrev pub at : List ℕ → ℕ → ℕ
 at row i = get_or row i 0
@@ -32,8 +30,8 @@ abbrev pub caller_place : ℕ
 caller_place = 6
 
 -- a request that uses the numbers before place n: unused numbers are 0
-unfoldable pub read_as : ℕ → List ℕ → Ask → RequestRead
-read_as n row a = cond (zero_from n (take caller_place row)) (Read (request (at row caller_place) a)) Unreadable
+unfoldable pub read_as : ℕ → List ℕ → Ask → Option Request
+read_as n row a = cond (zero_from n (take caller_place row)) (Some (request (at row caller_place) a)) None
 
 -- line end, safety distance, V, A
 abbrev pub opening_in : List ℕ → Opening
@@ -52,7 +50,7 @@ abbrev pub extension_in : List ℕ → Extension
 extension_in row = record { number = at row 2; length = at row 3 }
 
 -- 1 open, 2 enter, 3 report, 4 extend, 5 call back (id, place), 6 hold, 7 lift, 8 take off (id); any other code is unreadable
-unfoldable pub request_of : List ℕ → RequestRead
+unfoldable pub request_of : List ℕ → Option Request
 request_of row =
     cond (eqb (at row 0) 1) (read_as 5 row (Open (opening_in row)))
     (cond (eqb (at row 0) 2) (read_as 6 row (OnTable (Enter (entry_in row))))
@@ -62,4 +60,4 @@ request_of row =
     (cond (eqb (at row 0) 6) (read_as 2 row (OnTable (Own (at row 1) Hold)))
     (cond (eqb (at row 0) 7) (read_as 2 row (OnTable (Own (at row 1) Lift)))
     (cond (eqb (at row 0) 8) (read_as 2 row (OnTable (TakeOff (at row 1))))
-    Unreadable)))))))
+    None)))))))

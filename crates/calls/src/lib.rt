@@ -71,13 +71,6 @@ pub struct Request {
     pub ask: Ask,
 }
 
-// A row of numbers, read: some rows ask nothing.
-#[derive(Clone, Copy)]
-pub enum RequestRead {
-    Read(Request),
-    Unreadable,
-}
-
 // Numbers in a row: the call code and five more, then the caller.
 pub const ROW: usize = 7;
 
@@ -115,12 +108,8 @@ pub enum Values {
     Zeros,
 }
 
-// The answer to a call.
-#[derive(Clone, Copy)]
-pub enum Answer {
-    Accepted(Values),
-    Refused(Refusal),
-}
+// The answer to a call: accepted with what it gives, or refused.
+pub type Answer = Result<Values, Refusal>;
 
 // Document 01's number of an answer and its three values.
 #[derive(Clone, Copy)]

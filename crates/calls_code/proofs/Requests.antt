@@ -1,5 +1,6 @@
 -- Laws of reading a row of numbers, as the code reads it: the unused ones one by one, and the codes.
 -- Assumes nothing.
+use Rattle.std.specs.Prelude.{None}
 use Prim.Native.Nat.{ℕ, ◌+◌, ◌≤◌, ◌<◌}
 use mathlib.Core.Bool.{true, ◌&&◌}
 use mathlib.Core.List.{List}
@@ -13,7 +14,6 @@ use borrow.Author.Tests.{ne_eqb}
 use Rattle.calls.specs.declared.Act.TheVariants.{Report, Extend, CallBack, Hold, Lift}
 use Rattle.calls.specs.declared.Call.TheVariants.{Enter, Own, TakeOff}
 use Rattle.calls.specs.declared.Ask.TheVariants.{Open, OnTable}
-use Rattle.calls.specs.declared.RequestRead.TheVariants.{Unreadable}
 use Rattle.calls.specs.Requests.{at, all_zero, zero_from, caller_place, read_as, opening_in, entry_in, reading_in, extension_in, request_of}
 
 -- ---- unused numbers
@@ -70,7 +70,7 @@ module _ (row : List ℕ) where
   code_take_off h = rw (h, request_of) refl
 
   pub code_none : (at row 0 ≡ 1 → ⊥) → (at row 0 ≡ 2 → ⊥) → (at row 0 ≡ 3 → ⊥) → (at row 0 ≡ 4 → ⊥) → (at row 0 ≡ 5 → ⊥) → (at row 0 ≡ 6 → ⊥)
-      → (at row 0 ≡ 7 → ⊥) → (at row 0 ≡ 8 → ⊥) → request_of row ≡ Unreadable
+      → (at row 0 ≡ 7 → ⊥) → (at row 0 ≡ 8 → ⊥) → request_of row ≡ None
   unfolding request_of
   code_none one two three four five six seven eight =
       rw (

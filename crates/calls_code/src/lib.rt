@@ -7,7 +7,7 @@ ghost use Rattle.calls.specs.Requests.{zero_from, caller_place, read_as, request
 
 use calls::{
     Act, Answer, Ask, Call, Entry, Extension, Numbers, Opening, ROW, Reading, Refusal, Request,
-    RequestRead, Values,
+    Values,
 };
 
 // The place of the caller, which is the last number of a row.
@@ -41,7 +41,7 @@ fn refusal_number(r: Refusal) -> u64
 
 // Answer 0 is acceptance.
 fn numbers_given(v: Values) -> Numbers
-    ensures { result ≡ numbers_of (Answer.Accepted v) }
+    ensures { result ≡ numbers_of (Ok v) }
 {
     match v {
         Values::Entered(full, growth, end) => Numbers {
@@ -76,8 +76,8 @@ pub fn numbers_of(a: Answer) -> Numbers
     ensures { result ≡ numbers_of a }
 {
     match a {
-        Answer::Accepted(v) => numbers_given(v),
-        Answer::Refused(r) => Numbers {
+        Ok(v) => numbers_given(v),
+        Err(r) => Numbers {
             number: refusal_number(r),
             first: 0,
             second: 0,
@@ -103,20 +103,20 @@ fn zero_from(row: [u64; ROW], n: usize) -> bool
 }
 
 // A request that uses the numbers before place n: the unused ones are 0.
-fn read_as(row: [u64; ROW], n: usize, a: Ask) -> RequestRead
+fn read_as(row: [u64; ROW], n: usize, a: Ask) -> Option<Request>
     ensures { result ≡ read_as n row a }
 {
     if zero_from(row, n) {
-        return RequestRead::Read(Request {
+        return Some(Request {
             caller: row[CALLER],
             ask: a,
         });
     }
-    RequestRead::Unreadable
+    None
 }
 
 // What a row of numbers asks, its code first and its caller last.
-pub fn request_of(row: [u64; ROW]) -> RequestRead
+pub fn request_of(row: [u64; ROW]) -> Option<Request>
     ensures { result ≡ request_of row }
 {
     let code = row[0];
@@ -167,6 +167,6 @@ pub fn request_of(row: [u64; ROW]) -> RequestRead
         6 => read_as(row, 2, Ask::OnTable(Call::Own(a, Act::Hold))),
         7 => read_as(row, 2, Ask::OnTable(Call::Own(a, Act::Lift))),
         8 => read_as(row, 2, Ask::OnTable(Call::TakeOff(a))),
-        _ => RequestRead::Unreadable,
+        _ => None,
     }
 }

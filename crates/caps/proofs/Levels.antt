@@ -1,6 +1,7 @@
 -- Document 02, (iv), said a second time: the list in products, as far as it is B and from there on; and that it holds the levels which the
 -- brake has cycle by cycle, so that stop travel read from it is stop travel.
 -- Assumes nothing.
+use Rattle.std.specs.Prelude.{Some}
 use Prim.Native.Nat.{ℕ, zero, suc, ◌+◌, ◌-◌, ◌*◌, ◌≤◌, ◌<◌}
 use mathlib.Core.List.{List, [], ◌∷◌}
 use mathlib.Core.Logic.{by_cases}
@@ -12,7 +13,6 @@ use lib.ListN.{length, get_or, length-append, get_or-append}
 use lib.Seq.{get_or_at}
 use borrow.Author.Tests.{eq-eqb}
 use Rattle.brake.specs.declared.Figures.{Figures}
-use Rattle.brake.specs.declared.FiguresFound.TheVariants.{Given}
 use Rattle.brake.specs.Consist.{Sound, figures_of}
 use Rattle.brake.proofs.Consist.{cycles_most, given_sound}
 use Rattle.brake.proofs.Sentences.{PerCar, loaded, empty, unknown, cycles_described, figures_exactly}
@@ -167,7 +167,7 @@ record Built (k : Figures) : Type 0 where
   growth_least : 44 ≤ k.growth
   growths_most : k.full ≤ 1990 * k.growth
 
-built : (load l : ℕ) (k : Figures) → figures_of load l ≡ Given k → Built k
+built : (load l : ℕ) (k : Figures) → figures_of load l ≡ Some k → Built k
 built load l k e =
     let d = (figures_exactly load l k).0 e in
     let few : d.cycles ≤ 1961 = rw (cycles_described d) at (cycles_most l d.longest) in
@@ -176,7 +176,7 @@ built load l k e =
     record { sound = given_sound load l k e; full_least = full.0; growth_least = omega (arith, d.growth.next_exceeds); growths_most = full.1 }
 
 -- entry 1,990 is B, so its list has 1,991 entries at most
-pub list_within : (load l : ℕ) (k : Figures) → figures_of load l ≡ Given k → (level_entry k 1990 ≡ k.full) × (length (level_list k) ≤ 1991)
+pub list_within : (load l : ℕ) (k : Figures) → figures_of load l ≡ Some k → (level_entry k 1990 ≡ k.full) × (length (level_list k) ≤ 1991)
 list_within load l k e =
     let figures = built load l k e in
     let full = entry_full k 1990 figures.growths_most in
@@ -208,6 +208,6 @@ module _ (k : Figures) (b : Built k) where
       rw (run_moves k v (level_entry k i) b.sound e, sym (entry_next k i)) (omega arith))
 
 -- from 1,250,000 µm/s on down, no consist's run reads more than 240 entries
-pub slow_run : (load l : ℕ) (k : Figures) (v : ℕ) → figures_of load l ≡ Given k → v ≤ 1250000 → length (braked_run k v 0) ≤ 240
+pub slow_run : (load l : ℕ) (k : Figures) (v : ℕ) → figures_of load l ≡ Some k → v ≤ 1250000 → length (braked_run k v 0) ≤ 240
 unfolding sum_from
 slow_run load l k v e slow = rw (entry_none k) at (run_within k (built load l k e) 240 0 v (omega arith) (omega arith))

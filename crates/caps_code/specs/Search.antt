@@ -1,7 +1,6 @@
 -- What the search for the greatest cap takes for granted. Document 01 has the order only (motion/specs/Orders: order_for).
-use Rattle.std.specs.Prelude.{ℕ, ◌+◌, ◌-◌, ◌/◌, ◌≤◌, ◌<◌, List, ◌≡◌, length, get_or, take}
+use Rattle.std.specs.Prelude.{ℕ, ◌+◌, ◌-◌, ◌/◌, ◌≤◌, ◌<◌, List, ◌≡◌, length, get_or, take, Some}
 use Rattle.brake.specs.declared.Figures.{Figures}
-use Rattle.brake.specs.declared.FiguresFound.TheVariants.{Given}
 use Rattle.brake.specs.Consist.{figures_of}
 use Rattle.motion.specs.declared.Motion.{Motion}
 use Rattle.motion.specs.declared.Maxima.{Maxima}
@@ -36,7 +35,7 @@ pub data Enough (k : Figures) (v n : ℕ) : Type 0 where
 -- room for n entries, which are enough for a run from speed v wherever the figures are a consist's. A list of other figures may be longer.
 pub record Room (k : Figures) (v n : ℕ) : Type 0 where
   pub most : n ≤ longest_list
-  pub enough : (load l : ℕ) → figures_of load l ≡ Given k → Enough k v n
+  pub enough : (load l : ℕ) → figures_of load l ≡ Some k → Enough k v n
 
 -- a list of levels, as far as it goes, for a run from speed v
 pub record Listed (k : Figures) (v : ℕ) (list : List ℕ) : Type 0 where

@@ -1,11 +1,11 @@
 -- Demand 3 at the desk: what its lines do since an opening was accepted is a list of deeds, previews among them, so the theorem holds of it.
 -- Assumes nothing.
+use Rattle.std.specs.Prelude.{Ok}
 use Prim.Native.Nat.{ℕ}
 use mathlib.Core.Bool.{true}
 use mathlib.Core.List.{List, [], ◌∷◌, ◌++◌, map}
 use mathlib.Core.Path.{◌≡◌, refl, ap}
 use Rattle.calls.specs.declared.Opening.{Opening}
-use Rattle.calls.specs.declared.Answer.TheVariants.{Accepted}
 use Rattle.calls.specs.declared.Values.TheVariants.{Zeros}
 use Rattle.table.specs.declared.Table.{Table}
 use Rattle.line.specs.Step.{outcome, requested, open_step}
@@ -38,5 +38,5 @@ follows t (l ∷ ls) = go (desk_read l) (λ u. follows u ls)
     go Nothing next = next t
 
 -- Whatever lines follow an accepted opening: the table is what their deeds left, their answers are that history, and demand 3 holds of it.
-pub desk_safe : (o : Opening) (t : Table) → open_step o ≡ outcome (Accepted Zeros) t → (ls : List (List ℕ)) → Follows t ls × Demand3 o t (deeds_at ls)
+pub desk_safe : (o : Opening) (t : Table) → open_step o ≡ outcome (Ok Zeros) t → (ls : List (List ℕ)) → Follows t ls × Demand3 o t (deeds_at ls)
 desk_safe o t opened ls = (follows t ls, demand_3 o t opened (deeds_at ls))

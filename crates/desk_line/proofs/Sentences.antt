@@ -1,7 +1,7 @@
 -- The desk beside the session, line by line: on a line that the session reads it answers as the session does, and its state is the session's. What
 -- previews leave and show is said by code and in the columns of the output.
 -- Assumes nothing.
-use Rattle.std.specs.Prelude.{Option, None, Some}
+use Rattle.std.specs.Prelude.{Option, None, Some, Err}
 use Prim.Native.Nat.{ℕ, ◌+◌, ◌-◌, ◌≤◌}
 use mathlib.Core.Bool.{Bool, true, false, cond}
 use mathlib.Core.List.{List, [], ◌∷◌, ◌++◌, append_assoc, append-nil}
@@ -17,11 +17,8 @@ use Rattle.calls.specs.declared.Opening.{Opening}
 use Rattle.calls.specs.declared.Call.{Call}
 use Rattle.calls.specs.declared.Ask.TheVariants.{Open, OnTable}
 use Rattle.calls.specs.declared.Request.{Request}
-use Rattle.calls.specs.declared.RequestRead.{RequestRead}
-use Rattle.calls.specs.declared.RequestRead.TheVariants.{Read, Unreadable}
 use Rattle.calls.specs.declared.Refusal.{Refusal}
 use Rattle.calls.specs.declared.Refusal.TheVariants.{BadLine, OutOfTurn}
-use Rattle.calls.specs.declared.Answer.TheVariants.{Refused}
 use Rattle.calls.specs.Answers.{numbers_of}
 use Rattle.calls.specs.Requests.{at, request, request_of}
 use Rattle.table.specs.declared.Table.{Table}
@@ -42,30 +39,30 @@ use Rattle.desk_line.specs.Columns.{desk_line}
 -- ---- what a line asks
 
 -- no call of the session has a code from 50 on
-above_50 : (row : List ℕ) → 50 ≤ at row 0 → request_of row ≡ Unreadable
+above_50 : (row : List ℕ) → 50 ≤ at row 0 → request_of row ≡ None
 unfolding request_of
 above_50 row h =
     let other : (c : ℕ) → c ≤ 8 → at row 0 ≡ c → ⊥ = λ c low e. omega arith in
     rw (ne_eqb (at row 0) 1 (other 1 (omega arith)), ne_eqb (at row 0) 2 (other 2 (omega arith)), ne_eqb (at row 0) 3 (other 3 (omega arith)), ne_eqb (at row 0) 4 (other 4 (omega arith)), ne_eqb (at row 0) 5 (other 5 (omega arith)), ne_eqb (at row 0) 6 (other 6 (omega arith)), ne_eqb (at row 0) 7 (other 7 (omega arith)), ne_eqb (at row 0) 8 (other 8 (omega arith)))
 
 -- a row that the session reads is read as the same request, which is made
-row_made : (row : List ℕ) (r : Request) → request_of row ≡ Read r → desk_ask row ≡ Made r
+row_made : (row : List ℕ) (r : Request) → request_of row ≡ Some r → desk_ask row ≡ Made r
 unfolding desk_ask
 row_made row r e =
     by_test (leb 50 (at row 0))
     (λ high. let z : ◌≡◌ {A = ℕ} 0 1 = cc (above_50 row (leb-true 50 (at row 0) high)) in absurd (omega arith))
     (λ low. rw (low, e))
 
-pub session_read : (l : List ℕ) (r : Request) → line_read l ≡ Read r → desk_read l ≡ Made r
+pub session_read : (l : List ℕ) (r : Request) → line_read l ≡ Some r → desk_read l ≡ Made r
 unfolding line_read desk_read
 session_read l r = go (row_in l)
   where
-    go : (o : Option (List ℕ)) → request_by o ≡ Read r → desk_ask_by o ≡ Made r
+    go : (o : Option (List ℕ)) → request_by o ≡ Some r → desk_ask_by o ≡ Made r
     go None e = let z : ◌≡◌ {A = ℕ} 0 1 = cc in absurd (omega arith)
     go (Some row) e = row_made row r e
 
 -- code 50 + c previews call c
-pub preview_read : (l row : List ℕ) (c : ℕ) (r : Request) → row_in l ≡ Some row → at row 0 ≡ 50 + c → request_of (set row 0 c) ≡ Read r → desk_read l ≡ Tried r
+pub preview_read : (l row : List ℕ) (c : ℕ) (r : Request) → row_in l ≡ Some row → at row 0 ≡ 50 + c → request_of (set row 0 c) ≡ Some r → desk_read l ≡ Tried r
 unfolding desk_read desk_ask
 preview_read l row c r has code reads =
     let above : at row 0 - 50 ≡ c = omega arith in
@@ -87,7 +84,7 @@ first_columns w =
     ap (take 44) (append_assoc a _ (10 ∷ [])) ∙ take_at a _ 44 (answer_long (numbers_of w.answer))
 
 -- on every line that the session reads, in every state
-pub as_in_the_session : (s : Session) (l : List ℕ) (r : Request) → line_read l ≡ Read r → AsInTheSession s l
+pub as_in_the_session : (s : Session) (l : List ℕ) (r : Request) → line_read l ≡ Some r → AsInTheSession s l
 unfolding shown_at left_at line_decision
 as_in_the_session s l r reads =
     let same = session_read l r reads in
@@ -96,13 +93,13 @@ as_in_the_session s l r reads =
 
 -- Of any other line it makes nothing, as the session does: the desk has no call that the session lacks. So the calls of a line that is kept lead
 -- the desk to the session's state.
-not_made : (row : List ℕ) (s : Session) → request_of row ≡ Unreadable → left_at s (desk_ask row) ≡ s
+not_made : (row : List ℕ) (s : Session) → request_of row ≡ None → left_at s (desk_ask row) ≡ s
 unfolding desk_ask left_at
 not_made row s e = by_test (leb 50 (at row 0)) (λ high. rw high (tried (request_of (set row 0 (at row 0 - 50))))) (λ low. rw (low, e))
   where
-    tried : (q : RequestRead) → left_at s (as_tried q) ≡ s
-    tried (Read r) = refl
-    tried Unreadable = refl
+    tried : (q : Option Request) → left_at s (as_tried q) ≡ s
+    tried (Some r) = refl
+    tried None = refl
 
 pub same_state : (s : Session) (l : List ℕ) → (desk_answered s l).session ≡ (answered s l).session
 unfolding line_read line_decision desk_read left_at
@@ -112,12 +109,12 @@ same_state s l = go (row_in l)
     refuses true t = refl
     refuses false t = refl
 
-    stays : s ≡ (replied s (line_decision s Unreadable)).session
+    stays : s ≡ (replied s (line_decision s None)).session
     stays = refuses s.opened s.table
 
-    row_asks : (row : List ℕ) (q : RequestRead) → request_of row ≡ q → left_at s (desk_ask row) ≡ (replied s (line_decision s q)).session
-    row_asks row (Read r) e = ap (left_at s) (row_made row r e)
-    row_asks row Unreadable e = not_made row s e ∙ stays
+    row_asks : (row : List ℕ) (q : Option Request) → request_of row ≡ q → left_at s (desk_ask row) ≡ (replied s (line_decision s q)).session
+    row_asks row (Some r) e = ap (left_at s) (row_made row r e)
+    row_asks row None e = not_made row s e ∙ stays
 
     go : (o : Option (List ℕ)) → left_at s (desk_ask_by o) ≡ (replied s (line_decision s (request_by o))).session
     go None = stays
@@ -132,7 +129,7 @@ same_states (l ∷ ls) s = same_states ls (desk_answered s l).session ∙ ap (λ
 
 -- a refusal shows zeros
 abbrev refusal : Refusal → Session → DeskReply
-refusal r s = record { shown = record { answer = Refused r; train = zero_record }; session = s }
+refusal r s = record { shown = record { answer = Err r; train = zero_record }; session = s }
 
 module _ (l : List ℕ) (t : Table) where
   -- 1, in every state

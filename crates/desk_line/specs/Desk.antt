@@ -1,7 +1,6 @@
 -- A line at the desk: what it asks, what is shown of it, and the state after it. Its columns are those of a line of the session.
 use Rattle.std.specs.Prelude.{ℕ, ◌-◌, not, cond, ◌&&◌, List, [], ◌∷◌, leb, set, Option, None, Some}
-use Rattle.calls.specs.declared.RequestRead.{RequestRead}
-use Rattle.calls.specs.declared.RequestRead.TheVariants.{Read, Unreadable}
+use Rattle.calls.specs.declared.Request.{Request}
 use Rattle.calls.specs.declared.Refusal.TheVariants.{BadLine, OutOfTurn}
 use Rattle.calls.specs.Requests.{at, request_of}
 use Rattle.line.specs.declared.Shown.{Shown}
@@ -17,16 +16,16 @@ use Rattle.desk_line.specs.declared.DeskReply.{DeskReply}
 -- ---- what a line asks
 
 -- the calls of the desk: codes 1 to 8 are the session's
-abbrev pub desk_call : List ℕ → RequestRead
+abbrev pub desk_call : List ℕ → Option Request
 desk_call row = request_of row
 
-abbrev pub as_made : RequestRead → DeskRead
-as_made (Read r) = Made r
-as_made Unreadable = Nothing
+abbrev pub as_made : Option Request → DeskRead
+as_made (Some r) = Made r
+as_made None = Nothing
 
-abbrev pub as_tried : RequestRead → DeskRead
-as_tried (Read r) = Tried r
-as_tried Unreadable = Nothing
+abbrev pub as_tried : Option Request → DeskRead
+as_tried (Some r) = Tried r
+as_tried None = Nothing
 
 -- code 50 + c previews call c
 unfoldable pub desk_ask : List ℕ → DeskRead

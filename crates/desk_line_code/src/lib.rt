@@ -8,7 +8,7 @@ ghost use Rattle.wire.specs.Format.{text_of};
 ghost use Rattle.desk_line.specs.Desk.{as_made, as_tried, desk_ask, desk_read, shown_at, left_at, desk_answered};
 ghost use Rattle.desk_line.specs.Columns.{mark_number, record_numbers, record_columns, desk_room, desk_written};
 
-use calls::{ROW, Refusal, Request, RequestRead};
+use calls::{ROW, Refusal, Request};
 use desk_line::{DeskRead, DeskReply, RECORD};
 use line::Shown;
 use stream::Session;
@@ -19,21 +19,21 @@ use train::Train;
 // Code 50 + c previews call c.
 const PREVIEW: u64 = 50;
 
-fn as_made(q: RequestRead) -> DeskRead
+fn as_made(q: Option<Request>) -> DeskRead
     ensures { result ≡ as_made q }
 {
     match q {
-        RequestRead::Read(r) => DeskRead::Made(r),
-        RequestRead::Unreadable => DeskRead::Nothing,
+        Some(r) => DeskRead::Made(r),
+        None => DeskRead::Nothing,
     }
 }
 
-fn as_tried(q: RequestRead) -> DeskRead
+fn as_tried(q: Option<Request>) -> DeskRead
     ensures { result ≡ as_tried q }
 {
     match q {
-        RequestRead::Read(r) => DeskRead::Tried(r),
-        RequestRead::Unreadable => DeskRead::Nothing,
+        Some(r) => DeskRead::Tried(r),
+        None => DeskRead::Nothing,
     }
 }
 

@@ -1,6 +1,6 @@
 -- Document 02, (v), in its words, on every table, for every caller and call: what a preview answers, and which record it shows.
 -- Assumes nothing.
-use Rattle.std.specs.Prelude.{Some}
+use Rattle.std.specs.Prelude.{Some, Err}
 use Prim.Native.Nat.{ℕ}
 use mathlib.Core.Bool.{true, false}
 use mathlib.Core.Logic.{inl, inr}
@@ -19,7 +19,6 @@ use Rattle.calls.specs.declared.Ask.TheVariants.{Open, OnTable}
 use Rattle.calls.specs.declared.Request.{Request}
 use Rattle.calls.specs.declared.Refusal.{Refusal}
 use Rattle.calls.specs.declared.Refusal.TheVariants.{NoRight}
-use Rattle.calls.specs.declared.Answer.TheVariants.{Refused}
 use Rattle.calls.specs.Answers.{numbers_of}
 use Rattle.calls.specs.Requests.{request}
 use Rattle.calls.proofs.Answers.{refusal_range}
@@ -173,7 +172,7 @@ in_turn (OnTable c) = refl
 
 module _ (r : Request) (lacks : Right r.caller r.ask → ⊥) where
   -- without the right it is 16 and zeros, whatever the table
-  pub preview_16 : (t : Table) → previewed t r ≡ record { answer = Refused NoRight; train = zero_record }
+  pub preview_16 : (t : Table) → previewed t r ≡ record { answer = Err NoRight; train = zero_record }
   unfolding decided
   preview_16 t = rw (in_turn r.ask, no_right r.caller r.ask lacks)
 

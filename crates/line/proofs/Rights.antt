@@ -1,6 +1,7 @@
 -- Document 02, (iii), in its words: what a caller without the right learns, and that no right is lost.
 -- Assumes nothing.
-use Rattle.std.specs.Prelude.{Option, None, Some}
+use Rattle.std.specs.Prelude.{Option, None, Some, Ok, Err}
+use Rattle.brake.specs.declared.Figures.{Figures}
 use Prim.Native.Nat.{ℕ}
 use mathlib.Core.Bool.{Bool, true, false, not}
 use mathlib.Core.List.{List}
@@ -9,8 +10,6 @@ use native.Mathlib.Omega.{arith}
 use lib.Dec.{eqb}
 use borrow.Author.Tests.{eq-eqb, not-true}
 use Rattle.logic.proofs.Tests.{by_test, not_both}
-use Rattle.brake.specs.declared.FiguresFound.{FiguresFound}
-use Rattle.brake.specs.declared.FiguresFound.TheVariants.{Given, NoFigures}
 use Rattle.calls.specs.declared.Opening.{Opening}
 use Rattle.calls.specs.declared.Act.{Act}
 use Rattle.calls.specs.declared.Act.TheVariants.{Report, Extend, CallBack, Hold, Lift}
@@ -21,7 +20,6 @@ use Rattle.calls.specs.declared.Ask.TheVariants.{Open, OnTable}
 use Rattle.calls.specs.declared.Request.{Request}
 use Rattle.calls.specs.declared.Refusal.{Refusal}
 use Rattle.calls.specs.declared.Refusal.TheVariants.{NoRight}
-use Rattle.calls.specs.declared.Answer.TheVariants.{Accepted, Refused}
 use Rattle.calls.specs.declared.Values.{Values}
 use Rattle.calls.specs.declared.Values.TheVariants.{Zeros}
 use Rattle.calls.specs.Answers.{refusal_number, numbers_of}
@@ -44,11 +42,11 @@ use Rattle.line.proofs.Steps.{step}
 -- ---- without the right
 
 -- 16 "caller without the right", and the table stays: whatever the table is, and whatever else is wrong
-pub call_16 : (n : ℕ) (c : Call) → (Right n (OnTable c) → ⊥) → (t : Table) → requested true t (request n (OnTable c)) ≡ outcome (Refused NoRight) t
+pub call_16 : (n : ℕ) (c : Call) → (Right n (OnTable c) → ⊥) → (t : Table) → requested true t (request n (OnTable c)) ≡ outcome (Err NoRight) t
 unfolding decided
 call_16 n c lacks t = rw (no_right n (OnTable c) lacks)
 
-pub open_16 : (n : ℕ) (o : Opening) → (Right n (Open o) → ⊥) → (t : Table) → requested false t (request n (Open o)) ≡ outcome (Refused NoRight) t
+pub open_16 : (n : ℕ) (o : Opening) → (Right n (Open o) → ⊥) → (t : Table) → requested false t (request n (Open o)) ≡ outcome (Err NoRight) t
 unfolding decided
 open_16 n o lacks t = rw (no_right n (Open o) lacks)
 
@@ -69,8 +67,8 @@ unfolding decided decide_on open_step
 open_rightful n o has = rw ((right_exactly n (Open o)).1 has)
 
 -- an accepted opening: its caller had the right, and it did what an opening does
-pub opened_by : (n : ℕ) (o : Opening) (t : Table) → requested false no_table (request n (Open o)) ≡ outcome (Accepted Zeros) t
-    → Right n (Open o) × (open_step o ≡ outcome (Accepted Zeros) t)
+pub opened_by : (n : ℕ) (o : Opening) (t : Table) → requested false no_table (request n (Open o)) ≡ outcome (Ok Zeros) t
+    → Right n (Open o) × (open_step o ≡ outcome (Ok Zeros) t)
 opened_by n o t opened =
     by_test (may_ask n (Open o))
     (λ may. let has = (right_exactly n (Open o)).0 may in (has, sym (open_rightful n o has) ∙ opened))
@@ -102,9 +100,9 @@ unfolding decide_on open_decision enter_decision act_decision take_off_decision
 ask_16 t (Open o) = judged_16 _ _ _ refl
 ask_16 t (OnTable (Enter e)) = go (figures_for t.settings e)
   where
-    go : (f : FiguresFound) → (numbers_of (enter_decision t e f).answer).number ≡ 16 → ⊥
-    go NoFigures = λ is. omega arith
-    go (Given k) = judged_16 (enter_checks t e k) _ _ refl
+    go : (f : Option Figures) → (numbers_of (enter_decision t e f).answer).number ≡ 16 → ⊥
+    go None = λ is. omega arith
+    go (Some k) = judged_16 (enter_checks t e k) _ _ refl
 ask_16 t (OnTable (Own id a)) = go (place_of t id)
   where
     go : (f : Option ℕ) → (numbers_of (named f (act_decision t a)).answer).number ≡ 16 → ⊥

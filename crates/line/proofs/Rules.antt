@@ -1,7 +1,7 @@
 -- What document 01 says of the calls, in its words: which are taken, exactly, and what each leaves. In numbers and in the fields of records.
 -- `step` and `open_decision` are what a call comes to by a caller with the right (Rights: call_rightful, open_rightful).
 -- Assumes nothing.
-use Rattle.std.specs.Prelude.{None, Some}
+use Rattle.std.specs.Prelude.{None, Some, Option, Result, Ok, Err}
 use Prim.Native.Nat.{ℕ, ◌*◌, ◌≤◌, ◌<◌}
 use mathlib.Core.Bool.{Bool, true, false, ◌&&◌}
 use mathlib.Core.Logic.{by_cases, ◌⊎◌, inl, inr}
@@ -12,8 +12,6 @@ use Rattle.logic.proofs.Tests.{by_test, both}
 use Rattle.ranges.specs.Ranges.{id_in_range, start_in_range}
 use Rattle.ranges.proofs.Sentences.{train_id, starting_number}
 use Rattle.brake.specs.declared.Figures.{Figures}
-use Rattle.brake.specs.declared.FiguresFound.{FiguresFound}
-use Rattle.brake.specs.declared.FiguresFound.TheVariants.{Given, NoFigures}
 use Rattle.brake.proofs.Sentences.{PerCar, loaded, empty, unknown, Described, figures_exactly, no_figures_exactly}
 use Rattle.motion.specs.declared.Order.TheVariants.{Brake}
 use Rattle.calls.specs.declared.Opening.{Opening}
@@ -26,15 +24,12 @@ use Rattle.calls.specs.declared.Ask.TheVariants.{Open, OnTable}
 use Rattle.calls.specs.declared.Request.{Request}
 use Rattle.calls.specs.declared.Refusal.{Refusal}
 use Rattle.calls.specs.declared.Refusal.TheVariants.{OutOfTurn, BadSetting, BadEntry, OnLine, LineFull, BadHead, NoTrain, NotLeaving}
-use Rattle.calls.specs.declared.Answer.{Answer}
-use Rattle.calls.specs.declared.Answer.TheVariants.{Accepted, Refused}
 use Rattle.calls.specs.declared.Values.{Values}
 use Rattle.calls.specs.declared.Values.TheVariants.{Entered, Zeros}
 use Rattle.calls.specs.Answers.{numbers_of}
 use Rattle.calls.specs.Requests.{request}
 use Rattle.calls.proofs.Answers.{accepted_0}
 use Rattle.rights.specs.Rights.{may_ask}
-use Rattle.acts.specs.declared.Verdict.{Verdict}
 use Rattle.train.specs.declared.Train.{Train}
 use Rattle.train.specs.Ranges.{settings_in_range, WorksWith}
 use Rattle.train.specs.Record.{figures_for}
@@ -57,13 +52,13 @@ use Rattle.line.proofs.Steps.{step, any_call, open_taken, open_refused, open_mad
 
 -- ---- what these laws speak with
 
-pub outcome_made : (a : Answer) (t : Table) → outcome a t ≡ record { answer = a; table = t }
+pub outcome_made : (a : Result Values Refusal) (t : Table) → outcome a t ≡ record { answer = a; table = t }
 outcome_made a t = refl
 
-pub refused_made : (r : Refusal) → refused r ≡ record { answer = Refused r; change = Stay }
+pub refused_made : (r : Refusal) → refused r ≡ record { answer = Err r; change = Stay }
 refused_made r = refl
 
-pub accepted_made : (v : Values) (c : Change) → accepted v c ≡ record { answer = Accepted v; change = c }
+pub accepted_made : (v : Values) (c : Change) → accepted v c ≡ record { answer = Ok v; change = c }
 accepted_made v c = refl
 
 -- ---- a refusal gives its number and zeros, and the whole table stays
@@ -126,7 +121,7 @@ open_3 o out = by_test (settings_in_range o) (λ e. absurd (out ((settings_exact
 pub open_accepted : (o : Opening) → Offers o → open_decision o ≡ accepted Zeros (Anew o)
 open_accepted o f = open_taken o ((settings_exactly o).1 f)
 
-pub opened_with : (o : Opening) (t : Table) → open_step o ≡ outcome (Accepted Zeros) t → Offers o × WorksWith o t.settings × (t.count ≡ 0)
+pub opened_with : (o : Opening) (t : Table) → open_step o ≡ outcome (Ok Zeros) t → Offers o × WorksWith o t.settings × (t.count ≡ 0)
 opened_with o t opened = let made = open_made o t opened in rw made.1 ((settings_exactly o).0 made.0, settings_given o, refl)
 
 -- ---- enter
@@ -149,12 +144,12 @@ module _ (t : Table) (e : Entry) where
   entered d q = ap (carried_out t) q
 
   -- 4 "id, length, load class or starting number out of range"
-  pub enter_4 : (Enters e → ⊥) → step t (Enter e) ≡ outcome (Refused BadEntry) t
+  pub enter_4 : (Enters e → ⊥) → step t (Enter e) ≡ outcome (Err BadEntry) t
   enter_4 out = go (figures_for t.settings e) refl
     where
-      go : (f : FiguresFound) → figures_for t.settings e ≡ f → step t (Enter e) ≡ outcome (Refused BadEntry) t
-      go NoFigures f = entered _ (enter_unfit t e f)
-      go (Given k) f =
+      go : (f : Option Figures) → figures_for t.settings e ≡ f → step t (Enter e) ≡ outcome (Err BadEntry) t
+      go None f = entered _ (enter_unfit t e f)
+      go (Some k) f =
           by_test (id_in_range e.id && start_in_range e.start)
           (λ ranged.
           let tests = both (id_in_range e.id) (start_in_range e.start) ranged in
@@ -167,25 +162,25 @@ module _ (t : Table) (e : Entry) where
     ranged = rw ((train_id e.id).1 r.id, (starting_number e.start).1 (omega arith, r.start))
 
     -- whatever its figures, and it has some
-    whatever_figures : (d : Decision) → ((k : Figures) → enter_decision t e (Given k) ≡ d) → step t (Enter e) ≡ carried_out t d
+    whatever_figures : (d : Decision) → ((k : Figures) → enter_decision t e (Some k) ≡ d) → step t (Enter e) ≡ carried_out t d
     whatever_figures d q = go (figures_for t.settings e) refl
       where
-        go : (f : FiguresFound) → figures_for t.settings e ≡ f → step t (Enter e) ≡ carried_out t d
-        go NoFigures f = absurd ((no_figures_exactly e.load e.length).0 f (r.length.0, r.length.1, r.load.0, r.load.1))
-        go (Given k) f = entered d (enter_fit t e k f ∙ q k)
+        go : (f : Option Figures) → figures_for t.settings e ≡ f → step t (Enter e) ≡ carried_out t d
+        go None f = absurd ((no_figures_exactly e.load e.length).0 f (r.length.0, r.length.1, r.load.0, r.load.1))
+        go (Some k) f = entered d (enter_fit t e k f ∙ q k)
 
     -- 5 "id on the line already"
-    pub enter_5 : (i : ℕ) → place_of t e.id ≡ Some i → step t (Enter e) ≡ outcome (Refused OnLine) t
+    pub enter_5 : (i : ℕ) → place_of t e.id ≡ Some i → step t (Enter e) ≡ outcome (Err OnLine) t
     enter_5 i known = whatever_figures _ (λ k. enter_known t e k ranged i known)
 
     module _ (absent : place_of t e.id ≡ None) where
       -- 6 "32 trains on the line"
-      pub enter_6 : 32 ≤ t.count → step t (Enter e) ≡ outcome (Refused LineFull) t
+      pub enter_6 : 32 ≤ t.count → step t (Enter e) ≡ outcome (Err LineFull) t
       enter_6 full = whatever_figures _ (λ k. enter_full t e k ranged absent full)
 
       module _ (free : t.count < 32) where
         -- 7 "entering head not in its range": "the head must be at least the length and at most the limit"
-        pub enter_7 : (e.head < 6096000 * e.length) ⊎ (InLimit (limit_at t t.count) e.head → ⊥) → step t (Enter e) ≡ outcome (Refused BadHead) t
+        pub enter_7 : (e.head < 6096000 * e.length) ⊎ (InLimit (limit_at t t.count) e.head → ⊥) → step t (Enter e) ≡ outcome (Err BadHead) t
         unfolding steps_of
         enter_7 (inl short) = whatever_figures _ (λ k. enter_short t e k ranged absent free short)
         enter_7 (inr far) =
@@ -205,7 +200,7 @@ module _ (t : Table) (e : Entry) where
               authority = record { end = e.head; goal = e.head; start = e.start; number = e.start; length = 0 };
               marks = record { held = false; penalty = false };
             } in
-            step t (Enter e) ≡ outcome (Accepted (Entered k.full k.growth e.head)) (changed t (Add x))
+            step t (Enter e) ≡ outcome (Ok (Entered k.full k.growth e.head)) (changed t (Add x))
         unfolding steps_of
         enter_accepted k d long near =
             entered _
@@ -215,11 +210,11 @@ module _ (t : Table) (e : Entry) where
 -- ---- a call that names a train
 
 -- 8 "no such train"
-pub own_8 : (t : Table) (id : ℕ) (a : Act) → place_of t id ≡ None → step t (Own id a) ≡ outcome (Refused NoTrain) t
+pub own_8 : (t : Table) (id : ℕ) (a : Act) → place_of t id ≡ None → step t (Own id a) ≡ outcome (Err NoTrain) t
 unfolding step
 own_8 t id a none_found = ap (carried_out t) (own_unknown t id a none_found)
 
-pub take_off_8 : (t : Table) (id : ℕ) → place_of t id ≡ None → step t (TakeOff id) ≡ outcome (Refused NoTrain) t
+pub take_off_8 : (t : Table) (id : ℕ) → place_of t id ≡ None → step t (TakeOff id) ≡ outcome (Err NoTrain) t
 unfolding step
 take_off_8 t id none_found = ap (carried_out t) (take_off_unknown t id none_found)
 
@@ -228,12 +223,12 @@ module _ (t : Table) (id i : ℕ) (found : place_of t id ≡ Some i) where
   at_place = record { place = found; limited = refl; here = refl }
 
   -- an act is answered by its verdict on the record at that place
-  pub own_step : (a : Act) (v : Verdict) → verdict (decide t.settings (limit_at t i) (train_at t i) a) ≡ v → step t (Own id a) ≡ carried_out t (placed i v)
+  pub own_step : (a : Act) (v : Result (Values × Train) Refusal) → verdict (decide t.settings (limit_at t i) (train_at t i) a) ≡ v → step t (Own id a) ≡ carried_out t (placed i v)
   unfolding step
-  own_step a v e = ap (carried_out t) (own_found t id i _ _ at_place a) ∙ ap (λ (w : Verdict). carried_out t (placed i w)) e
+  own_step a v e = ap (carried_out t) (own_found t id i _ _ at_place a) ∙ ap (λ (w : Result (Values × Train) Refusal). carried_out t (placed i w)) e
 
   -- 15 "train not first, or not standing under brake"
-  pub take_off_15 : ((i ≡ 0) × ((train_at t i).motion.speed ≡ 0) × ((train_at t i).order ≡ Brake) → ⊥) → step t (TakeOff id) ≡ outcome (Refused NotLeaving) t
+  pub take_off_15 : ((i ≡ 0) × ((train_at t i).motion.speed ≡ 0) × ((train_at t i).order ≡ Brake) → ⊥) → step t (TakeOff id) ≡ outcome (Err NotLeaving) t
   unfolding step
   take_off_15 not_so =
       by_test (may_leave i (train_at t i))
@@ -241,7 +236,7 @@ module _ (t : Table) (id i : ℕ) (found : place_of t id ≡ Some i) where
       (λ e. ap (carried_out t) (take_off_refused t id i _ _ at_place e))
 
   -- "the first train, standing under brake"
-  pub take_off_accepted : i ≡ 0 → (train_at t i).motion.speed ≡ 0 → (train_at t i).order ≡ Brake → step t (TakeOff id) ≡ outcome (Accepted Zeros) (changed t DropFirst)
+  pub take_off_accepted : i ≡ 0 → (train_at t i).motion.speed ≡ 0 → (train_at t i).order ≡ Brake → step t (TakeOff id) ≡ outcome (Ok Zeros) (changed t DropFirst)
   unfolding step
   take_off_accepted first standing braked =
       ap (carried_out t) (take_off_taken t id i _ _ at_place ((leaves_exactly i (train_at t i)).1 (first, standing, braked)))

@@ -1,6 +1,6 @@
 -- What stays true of a train on the line, whatever is called: a property of its record that its own acts keep.
 -- Assumes nothing.
-use Rattle.std.specs.Prelude.{None, Some}
+use Rattle.std.specs.Prelude.{None, Some, Option}
 use Prim.Native.Nat.{ℕ, zero, suc, ◌<◌}
 use mathlib.Core.Bool.{true}
 use mathlib.Core.Logic.{by_cases}
@@ -22,7 +22,6 @@ use Rattle.calls.specs.Checks.{first_of}
 use Rattle.calls.proofs.Answers.{accepted_0, refusal_range}
 use Rattle.train.specs.declared.Train.{Train}
 use Rattle.train.specs.declared.Settings.{Settings}
-use Rattle.train.specs.declared.Limit.{Limit}
 use Rattle.train.specs.Ranges.{WorksWith}
 use Rattle.train.specs.Record.{entering}
 use Rattle.acts.specs.Acts.{may_leave}
@@ -148,7 +147,7 @@ abbrev pub Keeps : (Train → Type 0) → ℕ → ℕ → Ask → Type 0
 Keeps Q id n (Open o) = Unit {0}
 Keeps Q id n (OnTable (Enter e)) = Unit {0}
 Keeps Q id n (OnTable (Own j a)) =
-    j ≡ id → n ≡ 0 → (σ : Settings) (limit : Limit) (x : Train) → first_of (decide σ limit x a).checks ≡ None → Q x → Q (decide σ limit x a).after
+    j ≡ id → n ≡ 0 → (σ : Settings) (limit : Option ℕ) (x : Train) → first_of (decide σ limit x a).checks ≡ None → Q x → Q (decide σ limit x a).after
 Keeps Q id n (OnTable (TakeOff j)) = j ≡ id → n ≡ 0 → ⊥
 
 module _ (Q : Train → Type 0) (id : ℕ) (t : Table) (sized : Sized t) (h : Holds Q id t) where

@@ -1,7 +1,7 @@
 -- Laws of one call: any call at once, and what each of its checks leads to. Whoever cites these opens neither `decide_on` nor the lists of
 -- checks.
 -- Assumes nothing.
-use Rattle.std.specs.Prelude.{Option, None, Some}
+use Rattle.std.specs.Prelude.{Option, None, Some, Ok, Result, Err}
 use Prim.Native.Nat.{ℕ, ◌≤◌, ◌<◌}
 use mathlib.Core.Bool.{Bool, true, false, not, ◌&&◌}
 use mathlib.Core.List.{[], ◌∷◌}
@@ -13,8 +13,6 @@ use borrow.Author.Tests.{le-leb, lt-leb, leb-true, leb-false, not-false}
 use Rattle.logic.proofs.Tests.{by_test, both}
 use Rattle.ranges.specs.Ranges.{id_in_range, start_in_range}
 use Rattle.brake.specs.declared.Figures.{Figures}
-use Rattle.brake.specs.declared.FiguresFound.{FiguresFound}
-use Rattle.brake.specs.declared.FiguresFound.TheVariants.{Given, NoFigures}
 use Rattle.calls.specs.declared.Opening.{Opening}
 use Rattle.calls.specs.declared.Entry.{Entry}
 use Rattle.calls.specs.declared.Act.{Act}
@@ -25,7 +23,6 @@ use Rattle.calls.specs.declared.Ask.TheVariants.{Open, OnTable}
 use Rattle.calls.specs.declared.Request.{Request}
 use Rattle.calls.specs.declared.Refusal.{Refusal}
 use Rattle.calls.specs.declared.Refusal.TheVariants.{OutOfTurn, BadSetting, BadEntry, OnLine, LineFull, BadHead, NoTrain, NotLeaving, NoRight}
-use Rattle.calls.specs.declared.Answer.TheVariants.{Accepted}
 use Rattle.calls.specs.declared.Values.{Values}
 use Rattle.calls.specs.declared.Values.TheVariants.{Entered, Zeros}
 use Rattle.calls.specs.Checks.{check, first_of}
@@ -33,9 +30,6 @@ use Rattle.calls.specs.Requests.{request}
 use Rattle.rights.specs.Rights.{may_ask}
 use Rattle.calls.proofs.Checks.{passed}
 use Rattle.train.specs.declared.Train.{Train}
-use Rattle.train.specs.declared.Limit.{Limit}
-use Rattle.acts.specs.declared.Verdict.{Verdict}
-use Rattle.acts.specs.declared.Verdict.TheVariants.{TurnedDown, Passed}
 use Rattle.train.specs.Ranges.{settings_in_range, settings_of}
 use Rattle.train.specs.Record.{figures_for, entering}
 use Rattle.train.specs.Track.{steps_of, within_limit}
@@ -70,14 +64,14 @@ named_any (Some i) d P refuses accepts = accepts i refl
 
 -- a train that may enter, with figures k: its id is not on the line, there is a free place, its rear is on the line and its head within the limit
 pub record Admitted (t : Table) (e : Entry) (k : Figures) : Type 0 where
-  pub figures : figures_for t.settings e ≡ Given k
+  pub figures : figures_for t.settings e ≡ Some k
   pub absent : place_of t e.id ≡ None
   pub room : t.count < places
   pub long : steps_of e.length ≤ e.head
   pub near : InLimit (limit_at t t.count) e.head
 
 -- an accepted entering has passed its checks
-admitted : (t : Table) (e : Entry) (k : Figures) → figures_for t.settings e ≡ Given k → first_of (enter_checks t e k) ≡ None → Admitted t e k
+admitted : (t : Table) (e : Entry) (k : Figures) → figures_for t.settings e ≡ Some k → first_of (enter_checks t e k) ≡ None → Admitted t e k
 admitted t e k given passes =
     let known = passed _ _ _ (passed _ _ _ passes).1 in
     let full = passed _ _ _ known.1 in
@@ -102,9 +96,9 @@ pub any_call : (t : Table) (P : Call → Decision → Type 0) → Any t P → (c
 unfolding decide_on enter_decision act_decision take_off_decision
 any_call t P any (Enter e) = go (figures_for t.settings e) refl
   where
-    go : (f : FiguresFound) → figures_for t.settings e ≡ f → P (Enter e) (enter_decision t e f)
-    go NoFigures q = any.refuses _ BadEntry
-    go (Given k) q = judged_any (first_of (enter_checks t e k)) _ _ (P (Enter e)) (any.refuses _) (λ passes. any.enters e k (admitted t e k q passes))
+    go : (f : Option Figures) → figures_for t.settings e ≡ f → P (Enter e) (enter_decision t e f)
+    go None q = any.refuses _ BadEntry
+    go (Some k) q = judged_any (first_of (enter_checks t e k)) _ _ (P (Enter e)) (any.refuses _) (λ passes. any.enters e k (admitted t e k q passes))
 any_call t P any (Own id a) =
     named_any (place_of t id) _ (P (Own id a)) (any.refuses _)
     (λ i q. judged_any (first_of (ruling_at t a i).checks) _ _ (P (Own id a)) (any.refuses _) (any.acts id i a q))
@@ -160,7 +154,7 @@ decided_fits opened t size r =
     fits (OnTable c) = call_fits t size c
 
 -- what an accepted opening has passed, and made
-pub open_made : (o : Opening) (t : Table) → open_step o ≡ outcome (Accepted Zeros) t → (settings_in_range o ≡ true) × (t ≡ empty_table (settings_of o))
+pub open_made : (o : Opening) (t : Table) → open_step o ≡ outcome (Ok Zeros) t → (settings_in_range o ≡ true) × (t ≡ empty_table (settings_of o))
 unfolding open_step
 open_made o t opened =
     by_test (settings_in_range o)
@@ -172,11 +166,11 @@ open_made o t opened =
 -- ---- enter
 
 module _ (t : Table) (e : Entry) where
-  pub enter_unfit : figures_for t.settings e ≡ NoFigures → decide_on t (OnTable (Enter e)) ≡ refused BadEntry
+  pub enter_unfit : figures_for t.settings e ≡ None → decide_on t (OnTable (Enter e)) ≡ refused BadEntry
   unfolding decide_on enter_decision
   enter_unfit f = ap (enter_decision t e) f
 
-  pub enter_fit : (k : Figures) → figures_for t.settings e ≡ Given k → decide_on t (OnTable (Enter e)) ≡ enter_decision t e (Given k)
+  pub enter_fit : (k : Figures) → figures_for t.settings e ≡ Some k → decide_on t (OnTable (Enter e)) ≡ enter_decision t e (Some k)
   unfolding decide_on
   enter_fit k f = ap (enter_decision t e) f
 
@@ -185,32 +179,32 @@ module _ (t : Table) (e : Entry) where
   unfolding decide_on enter_decision first_of
   enter_bad a = go (figures_for t.settings e)
     where
-      go : (f : FiguresFound) → enter_decision t e f ≡ refused BadEntry
-      go NoFigures = refl
-      go (Given k) = rw (a, enter_decision)
+      go : (f : Option Figures) → enter_decision t e f ≡ refused BadEntry
+      go None = refl
+      go (Some k) = rw (a, enter_decision)
 
   module _ (k : Figures) where
     module _ (a : (id_in_range e.id && start_in_range e.start) ≡ true) where
-      pub enter_known : (i : ℕ) → place_of t e.id ≡ Some i → enter_decision t e (Given k) ≡ refused OnLine
+      pub enter_known : (i : ℕ) → place_of t e.id ≡ Some i → enter_decision t e (Some k) ≡ refused OnLine
       unfolding enter_decision first_of
       enter_known i b = rw (a, b, enter_decision)
 
       module _ (b : place_of t e.id ≡ None) where
-        pub enter_full : places ≤ t.count → enter_decision t e (Given k) ≡ refused LineFull
+        pub enter_full : places ≤ t.count → enter_decision t e (Some k) ≡ refused LineFull
         unfolding enter_decision first_of
         enter_full c = rw (a, b, le-leb places t.count c, enter_decision)
 
         module _ (c : t.count < places) where
-          pub enter_short : e.head < steps_of e.length → enter_decision t e (Given k) ≡ refused BadHead
+          pub enter_short : e.head < steps_of e.length → enter_decision t e (Some k) ≡ refused BadHead
           unfolding enter_decision first_of
           enter_short d = rw (a, b, lt-leb places t.count c, lt-leb (steps_of e.length) e.head d, enter_decision)
 
-          pub enter_beyond : steps_of e.length ≤ e.head → within_limit (limit_at t t.count) e.head ≡ false → enter_decision t e (Given k) ≡ refused BadHead
+          pub enter_beyond : steps_of e.length ≤ e.head → within_limit (limit_at t t.count) e.head ≡ false → enter_decision t e (Some k) ≡ refused BadHead
           unfolding enter_decision first_of
           enter_beyond d f = rw (a, b, lt-leb places t.count c, le-leb (steps_of e.length) e.head d, f, enter_decision)
 
           pub enter_taken : steps_of e.length ≤ e.head → within_limit (limit_at t t.count) e.head ≡ true
-              → enter_decision t e (Given k) ≡ accepted (Entered k.full k.growth e.head) (Add (entering e k))
+              → enter_decision t e (Some k) ≡ accepted (Entered k.full k.growth e.head) (Add (entering e k))
           unfolding enter_decision first_of
           enter_taken d f = rw (a, b, lt-leb places t.count c, le-leb (steps_of e.length) e.head d, f, enter_decision)
 
@@ -227,21 +221,21 @@ take_off_unknown t id e = ap (λ (o : Option ℕ). named o (take_off_decision t)
 -- ---- the train x, found at place i
 
 -- what the verdict on an act of the train at place i decides
-abbrev pub placed : ℕ → Verdict → Decision
-placed i (TurnedDown r) = refused r
-placed i (Passed v y) = accepted v (Put i y)
+abbrev pub placed : ℕ → Result (Values × Train) Refusal → Decision
+placed i (Err r) = refused r
+placed i (Ok (v, y)) = accepted v (Put i y)
 
 placed_judged : (i : ℕ) (o : Option Refusal) (d : Ruling) → judged o d.gives (Put i d.after) ≡ placed i (verdict_by o d)
 placed_judged i None d = refl
 placed_judged i (Some r) d = refl
 
-module _ (t : Table) (id i : ℕ) (limit : Limit) (x : Train) (f : FoundAt t (place_of t id) i limit x) where
+module _ (t : Table) (id i : ℕ) (limit : Option ℕ) (x : Train) (f : FoundAt t (place_of t id) i limit x) where
   pub own_found : (a : Act) → decide_on t (OnTable (Own id a)) ≡ placed i (verdict (decide t.settings limit x a))
   unfolding decide_on act_decision
   own_found a =
       ap (λ (o : Option ℕ). named o (act_decision t a)) f.place
       ∙ placed_judged i (first_of (ruling_at t a i).checks) (ruling_at t a i)
-      ∙ ap (λ (l : Limit). placed i (verdict (decide t.settings l (train_at t i) a))) (sym f.limited)
+      ∙ ap (λ (l : Option ℕ). placed i (verdict (decide t.settings l (train_at t i) a))) (sym f.limited)
       ∙ ap (λ (y : Train). placed i (verdict (decide t.settings limit y a))) (sym f.here)
 
   take_off_found : decide_on t (OnTable (TakeOff id)) ≡ take_off_decision t i

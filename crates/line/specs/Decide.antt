@@ -1,10 +1,8 @@
 -- Document 01, "Authorities" and "What is turned down", and document 02, (iii): a request on a table is decided. The decision is the
 -- answer and what changes in the table, for every table and every number.
-use Rattle.std.specs.Prelude.{ℕ, Bool, cond, not, ◌&&◌, List, [], ◌∷◌, leb, Option, None, Some, is_some}
+use Rattle.std.specs.Prelude.{ℕ, Bool, cond, not, ◌&&◌, List, [], ◌∷◌, leb, Option, None, Some, is_some, Ok, Err}
 use Rattle.ranges.specs.Ranges.{id_in_range, start_in_range}
 use Rattle.brake.specs.declared.Figures.{Figures}
-use Rattle.brake.specs.declared.FiguresFound.{FiguresFound}
-use Rattle.brake.specs.declared.FiguresFound.TheVariants.{Given, NoFigures}
 use Rattle.calls.specs.declared.Opening.{Opening}
 use Rattle.calls.specs.declared.Entry.{Entry}
 use Rattle.calls.specs.declared.Act.{Act}
@@ -14,7 +12,6 @@ use Rattle.calls.specs.declared.Ask.TheVariants.{Open, OnTable}
 use Rattle.calls.specs.declared.Request.{Request}
 use Rattle.calls.specs.declared.Refusal.{Refusal}
 use Rattle.calls.specs.declared.Refusal.TheVariants.{OutOfTurn, BadSetting, BadEntry, OnLine, LineFull, BadHead, NoTrain, NotLeaving, NoRight}
-use Rattle.calls.specs.declared.Answer.TheVariants.{Accepted, Refused}
 use Rattle.calls.specs.declared.Values.{Values}
 use Rattle.calls.specs.declared.Values.TheVariants.{Entered, Zeros}
 use Rattle.calls.specs.Checks.{Check, check, first_of}
@@ -32,10 +29,10 @@ use Rattle.line.specs.declared.Decision.{Decision}
 
 -- A refusal gives its number and zeros; the whole table stays.
 abbrev pub refused : Refusal → Decision
-refused r = record { answer = Refused r; change = Stay }
+refused r = record { answer = Err r; change = Stay }
 
 abbrev pub accepted : Values → Change → Decision
-accepted v c = record { answer = Accepted v; change = c }
+accepted v c = record { answer = Ok v; change = c }
 
 -- the first check that applies is the answer; where none does, the call is accepted
 abbrev pub judged : Option Refusal → Values → Change → Decision
@@ -55,9 +52,9 @@ enter_checks t e k =
     ∷ check (not (leb (steps_of e.length) e.head && within_limit (limit_at t t.count) e.head)) BadHead
     ∷ []
 
-unfoldable pub enter_decision : Table → Entry → FiguresFound → Decision
-enter_decision t e NoFigures = refused BadEntry
-enter_decision t e (Given k) = judged (first_of (enter_checks t e k)) (Entered k.full k.growth e.head) (Add (entering e k))
+unfoldable pub enter_decision : Table → Entry → Option Figures → Decision
+enter_decision t e None = refused BadEntry
+enter_decision t e (Some k) = judged (first_of (enter_checks t e k)) (Entered k.full k.growth e.head) (Add (entering e k))
 
 -- what an act of the train at place i comes to
 abbrev pub ruling_at : Table → Act → ℕ → Ruling

@@ -1,8 +1,9 @@
 -- Decide, then change: the answer and the table after it.
-use Rattle.std.specs.Prelude.{Bool}
+use Rattle.std.specs.Prelude.{Bool, Result}
+use Rattle.calls.specs.declared.Refusal.{Refusal}
+use Rattle.calls.specs.declared.Values.{Values}
 use Rattle.calls.specs.declared.Opening.{Opening}
 use Rattle.calls.specs.declared.Request.{Request}
-use Rattle.calls.specs.declared.Answer.{Answer}
 use Rattle.train.specs.Ranges.{settings_of}
 use Rattle.table.specs.declared.Table.{Table}
 use Rattle.table.specs.Table.{empty_table, changed}
@@ -10,7 +11,7 @@ use Rattle.line.specs.declared.Decision.{Decision}
 use Rattle.line.specs.declared.Outcome.{Outcome}
 use Rattle.line.specs.Decide.{open_decision, decided}
 
-abbrev pub outcome : Answer → Table → Outcome
+abbrev pub outcome : Result Values Refusal → Table → Outcome
 outcome a t = record { answer = a; table = t }
 
 abbrev pub carried_out : Table → Decision → Outcome

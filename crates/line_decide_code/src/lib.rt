@@ -10,7 +10,7 @@ ghost use Rattle.line.specs.Step.{no_table};
 ghost use Rattle.line_decide_code.specs.Named.{id_named, found_for};
 
 use acts::Verdict;
-use brake::{Figures, FiguresFound};
+use brake::Figures;
 use calls::{Act, Answer, Ask, Call, Entry, Opening, Refusal, Request, Values};
 use line::Decision;
 use table::{Change, Table};
@@ -21,7 +21,7 @@ pub fn refuse(r: Refusal) -> Decision
     ensures { result ≡ refused r }
 {
     Decision {
-        answer: Answer::Refused(r),
+        answer: Err(r),
         change: Change::Stay,
     }
 }
@@ -30,7 +30,7 @@ fn accept(v: Values, c: Change) -> Decision
     ensures { result ≡ accepted v c }
 {
     Decision {
-        answer: Answer::Accepted(v),
+        answer: Ok(v),
         change: c,
     }
 }
@@ -54,7 +54,7 @@ fn decide_enter(t: Table, f: Found, e: Entry) -> Decision
         return refuse(Refusal::BadEntry);
     }
     let s = t.settings;
-    let FiguresFound::Given(k) = train_code::figures_for(s, e) else {
+    let Some(k) = train_code::figures_for(s, e) else {
         return refuse(Refusal::BadEntry);
     };
     enter_with(t, f, e, k)
@@ -63,7 +63,7 @@ fn decide_enter(t: Table, f: Found, e: Entry) -> Decision
 // Enter with an id, a starting number and a consist in range.
 fn enter_with(t: Table, f: Found, e: Entry, k: Figures) -> Decision
     requires { ((id_in_range e.id && start_in_range e.start) ≡ true) × (e.length ≤ greatest_length) × (f ≡ found_for t (Ask.OnTable (Call.Enter e))) }
-    ensures { result ≡ enter_decision t e (FiguresFound.Given k) }
+    ensures { result ≡ enter_decision t e (Some k) }
 {
     let n = t.count;
     let head = e.head;
@@ -97,8 +97,8 @@ fn decide_own(t: Table, f: Found, id: u64, a: Act) -> Decision
     };
     let s = t.settings;
     match acts_code::decide(s, limit, x, a) {
-        Verdict::TurnedDown(r) => refuse(r),
-        Verdict::Passed(v, y) => accept(v, Change::Put(i, y)),
+        Err(r) => refuse(r),
+        Ok((v, y)) => accept(v, Change::Put(i, y)),
     }
 }
 

@@ -1,10 +1,8 @@
 -- Document 01's starred values, with the cap as document 02, (i), has it worked out again: what the definitions give beside what the papers
 -- print (proofs/Starred: starred). Then values that the papers do not print, beside what another program works out from their formulas
 -- (proofs/Starred: worked).
-use Rattle.std.specs.Prelude.{ℕ, ◌+◌, ◌*◌, Bool, true, ◌&&◌, List, [], ◌∷◌, eqb}
+use Rattle.std.specs.Prelude.{ℕ, ◌+◌, ◌*◌, Bool, true, ◌&&◌, List, [], ◌∷◌, eqb, Option, Some, None}
 use Rattle.brake.specs.declared.Figures.{Figures}
-use Rattle.brake.specs.declared.FiguresFound.{FiguresFound}
-use Rattle.brake.specs.declared.FiguresFound.TheVariants.{Given, NoFigures}
 use Rattle.brake.specs.Consist.{application_cycles, sheet_entry, entry_for, brake_cycles, figures_of}
 use Rattle.motion.specs.declared.Motion.{Motion}
 use Rattle.motion.specs.declared.Maxima.{Maxima}
@@ -26,18 +24,18 @@ agree [] = true
 agree (r ∷ rs) = eqb r.defined r.printed && agree rs
 
 -- full brake and growth that a consist is given
-abbrev pub full_given : FiguresFound → ℕ
-full_given (Given k) = k.full
-full_given NoFigures = 0
+abbrev pub full_given : Option Figures → ℕ
+full_given (Some k) = k.full
+full_given None = 0
 
-abbrev pub growth_given : FiguresFound → ℕ
-growth_given (Given k) = k.growth
-growth_given NoFigures = 0
+abbrev pub growth_given : Option Figures → ℕ
+growth_given (Some k) = k.growth
+growth_given None = 0
 
 -- 1 where it is given figures, 0 where there are none: answer 4 (line/specs/Decide: enter_decision)
-abbrev pub is_given : FiguresFound → ℕ
-is_given (Given k) = 1
-is_given NoFigures = 0
+abbrev pub is_given : Option Figures → ℕ
+is_given (Some k) = 1
+is_given None = 0
 
 -- the figures of the starred stop travels: the growth is the formula's
 abbrev pub loaded : Figures

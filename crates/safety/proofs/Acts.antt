@@ -1,6 +1,6 @@
 -- An accepted act of a train: its record is what the history tells, the invariant holds on, and what the act gives is within bounds.
 -- Assumes nothing.
-use Rattle.std.specs.Prelude.{Option, None, Some, option_map, unwrap_or, is_some}
+use Rattle.std.specs.Prelude.{Option, None, Some, option_map, unwrap_or, is_some, Ok}
 use Prim.Native.Nat.{ℕ, zero, suc, ◌+◌, ◌≤◌, ◌<◌}
 use mathlib.Core.Bool.{Bool, true, false, cond, not, ◌&&◌}
 use mathlib.Core.Logic.{by_cases}
@@ -12,7 +12,6 @@ use lib.Dec.{leb, eqb}
 use borrow.Author.Tests.{not-false, eq-eqb, ne_eqb, lt-ltb, le-ltb, leb-true, leb-false}
 use Rattle.logic.proofs.Tests.{by_test}
 use Rattle.brake.specs.declared.Figures.{Figures}
-use Rattle.brake.specs.declared.FiguresFound.TheVariants.{Given}
 use Rattle.brake.specs.Consist.{figures_of}
 use Rattle.motion.specs.declared.Motion.{Motion}
 use Rattle.motion.specs.declared.Order.{Order}
@@ -25,7 +24,6 @@ use Rattle.calls.specs.declared.Reading.{Reading}
 use Rattle.calls.specs.declared.Extension.{Extension}
 use Rattle.calls.specs.declared.Act.{Act}
 use Rattle.calls.specs.declared.Act.TheVariants.{Report, Extend, CallBack, Hold, Lift}
-use Rattle.calls.specs.declared.Answer.TheVariants.{Accepted}
 use Rattle.calls.specs.declared.Values.{Values}
 use Rattle.calls.specs.declared.Values.TheVariants.{Entered, Ordered, Extended, Zeros}
 use Rattle.calls.specs.Answers.{numbers_of}
@@ -34,7 +32,6 @@ use Rattle.calls.proofs.Checks.{passed}
 use Rattle.train.specs.declared.Settings.{Settings}
 use Rattle.train.specs.declared.Authority.{Authority}
 use Rattle.train.specs.declared.Train.{Train}
-use Rattle.train.specs.declared.Limit.{Limit}
 use Rattle.train.specs.Track.{within_limit}
 use Rattle.train.specs.Record.{ending_at, wanting, is_pending}
 use Rattle.train.specs.Report.{reach_of, allowed, motion_after, moves, order_after, is_penalty, settled, reported}
@@ -57,8 +54,8 @@ Slowing σ x None = Unit {0}
 Slowing σ x (Some zero) = Unit {0}
 Slowing σ x (Some (suc n)) = (x.order ≡ Brake) × Slowed x.figures σ.maxima.ceiling n x.motion
 
-pub record Steady (σ : Settings) (limit : Limit) (x : Told) : Type 0 where
-  pub consist : figures_of x.entry.load x.entry.length ≡ Given x.figures
+pub record Steady (σ : Settings) (limit : Option ℕ) (x : Told) : Type 0 where
+  pub consist : figures_of x.entry.load x.entry.length ≡ Some x.figures
   pub guarded : Guarded σ limit (record_of x)
   pub held_slows : Slowing σ (record_of x) x.now.counts.held
   pub braked_slows : Slowing σ (record_of x) x.now.counts.braked
@@ -66,7 +63,7 @@ pub record Steady (σ : Settings) (limit : Limit) (x : Told) : Type 0 where
 -- ---- the record that a report tells of
 
 -- the order is read back from the answer
-order_told : (o : Order) (r : ℕ) → order_in (numbers_of (Accepted (Ordered o r))) ≡ o
+order_told : (o : Order) (r : ℕ) → order_in (numbers_of (Ok (Ordered o r))) ≡ o
 order_told (Drive c) r = refl
 order_told Brake r = refl
 
@@ -90,18 +87,18 @@ done_settled r standing head a within =
 -- ---- an accepted act
 
 -- what an act gives, of a train with this limit
-abbrev pub Within : Settings → Limit → Values → Type 0
+abbrev pub Within : Settings → Option ℕ → Values → Type 0
 Within σ limit (Entered full growth e) = ⊥
 Within σ limit (Ordered o r) = (order_cap o ≤ σ.maxima.traction) × InLimit limit r
 Within σ limit (Extended e repeat) = InLimit limit e
 Within σ limit Zeros = Unit {0}
 
-module _ (σ : Settings) (limit : Limit) (x : Told) (steady : Steady σ limit x) where
+module _ (σ : Settings) (limit : Option ℕ) (x : Told) (steady : Steady σ limit x) where
   abbrev pub ruling_on : Act → Ruling
   ruling_on = decide σ limit (record_of x)
 
   abbrev pub after_act : Act → Told
-  after_act a = record { entry = x.entry; figures = x.figures; now = told_act x.figures x.now (numbers_of (Accepted (ruling_on a).gives)) a }
+  after_act a = record { entry = x.entry; figures = x.figures; now = told_act x.figures x.now (numbers_of (Ok (ruling_on a).gives)) a }
 
   pub record Acted (a : Act) : Type 0 where
     pub told : record_of (after_act a) ≡ (ruling_on a).after

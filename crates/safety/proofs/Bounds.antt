@@ -1,5 +1,6 @@
 -- On every table that calls left, each train's record is within the bounds that the code tests, so these tests alter no answer.
 -- Assumes nothing.
+use Rattle.std.specs.Prelude.{Option, Ok}
 use Prim.Native.Nat.{ℕ, zero, suc, ◌≤◌, ◌<◌}
 use mathlib.Core.Bool.{true}
 use mathlib.Core.Logic.{inl}
@@ -19,11 +20,9 @@ use Rattle.motion.proofs.Orders.{within_report, within_bounded}
 use Rattle.calls.specs.declared.Opening.{Opening}
 use Rattle.calls.specs.declared.Reading.{Reading}
 use Rattle.train.specs.declared.Settings.{Settings}
-use Rattle.train.specs.declared.Limit.{Limit}
 use Rattle.train.proofs.Track.{InLimit, limit_first}
 use Rattle.train.specs.declared.Train.{Train}
 use Rattle.table.specs.declared.Table.{Table}
-use Rattle.calls.specs.declared.Answer.TheVariants.{Accepted}
 use Rattle.calls.specs.declared.Values.TheVariants.{Zeros}
 use Rattle.ranges.specs.Ranges.{between}
 use Rattle.train.specs.Ranges.{settings_in_range, WorksWith}
@@ -56,11 +55,11 @@ ranges o σ works e =
     record { end = rw works.end f.end.1; ceiling = rw works.ceiling f.ceiling.1; traction = rw works.traction f.traction.1 }
 
 -- a train on the line with this limit, whose end is on it too
-pub record OnTrack (σ : Settings) (limit : Limit) (x : Train) : Type 0 where
+pub record OnTrack (σ : Settings) (limit : Option ℕ) (x : Train) : Type 0 where
   pub guarded : Guarded σ limit x
   pub end : x.authority.end ≤ σ.end
 
-module _ (σ : Settings) (ρ : InRange σ) (limit : Limit) (x : Train) (t : OnTrack σ limit x) where
+module _ (σ : Settings) (ρ : InRange σ) (limit : Option ℕ) (x : Train) (t : OnTrack σ limit x) where
   track_computable : computable x ≡ true
   unfolding computable
   track_computable =
@@ -94,7 +93,7 @@ module _ (σ : Settings) (ρ : InRange σ) (limit : Limit) (x : Train) (t : OnTr
 -- ---- all trains
 
 -- no limit lies beyond the line end
-limits_in_line : (σ : Settings) (limit : Limit) (xs : List Told) (i : ℕ) → Wider limit (first_limit σ) → Lined σ limit xs → i ≤ length xs
+limits_in_line : (σ : Settings) (limit : Option ℕ) (xs : List Told) (i : ℕ) → Wider limit (first_limit σ) → Lined σ limit xs → i ≤ length xs
     → Wider (limit_in σ limit xs i) (first_limit σ)
 limits_in_line σ limit xs zero wider l h = wider
 limits_in_line σ limit [] (suc i) wider l h = absurd (omega arith)
@@ -102,7 +101,7 @@ limits_in_line σ limit (x ∷ xs) (suc i) wider l h =
     let g = l.0.guarded in
     limits_in_line σ (behind σ x) xs i (wider_end σ _ (record_of x) g (rw (limit_first σ) at (wider _ g.end_in_limit))) l.2 (omega arith)
 
-module _ (o : Opening) (t : Table) (opened : open_step o ≡ outcome (Accepted Zeros) t) (ds : List Deed) where
+module _ (o : Opening) (t : Table) (opened : open_step o ≡ outcome (Ok Zeros) t) (ds : List Deed) where
   abbrev left : Table
   left = after t ds
 

@@ -1,6 +1,6 @@
 -- Every deed, refused or not, keeps the invariant of a table under its history; so every list of deeds does.
 -- Assumes nothing.
-use Rattle.std.specs.Prelude.{None, Some}
+use Rattle.std.specs.Prelude.{None, Some, Result, Ok, Err}
 use Prim.Native.Nat.{ℕ}
 use mathlib.Core.Bool.{true}
 use mathlib.Core.List.{List, [], ◌∷◌, map, foldl, map-append}
@@ -20,8 +20,6 @@ use Rattle.calls.specs.declared.Call.TheVariants.{Enter, Own, TakeOff}
 use Rattle.calls.specs.declared.Ask.TheVariants.{OnTable}
 use Rattle.calls.specs.declared.Request.{Request}
 use Rattle.calls.specs.declared.Refusal.{Refusal}
-use Rattle.calls.specs.declared.Answer.{Answer}
-use Rattle.calls.specs.declared.Answer.TheVariants.{Accepted, Refused}
 use Rattle.calls.specs.declared.Values.{Values}
 use Rattle.calls.specs.declared.Values.TheVariants.{Entered, Zeros}
 use Rattle.calls.specs.declared.Numbers.{Numbers}
@@ -51,15 +49,15 @@ use Rattle.safety.proofs.Finding.{IsAt}
 use Rattle.safety.proofs.Line.{Lined, limit_in, first_limit, lined_act, lined_enter, lined_off}
 use Rattle.safety.proofs.Tables.{Agrees, agrees_count, agrees_train, agrees_limit, agrees_absent, agrees_place}
 
-abbrev pub event : Request → Answer → Event
+abbrev pub event : Request → Result Values Refusal → Event
 event r a = record { deed = made r; answer = numbers_of a }
 
 module _ (l : Line) (r : Request) where
-  told_refused : (why : Refusal) → told_by l (event r (Refused why)) ≡ l
+  told_refused : (why : Refusal) → told_by l (event r (Err why)) ≡ l
   unfolding told_by is_accepted
   told_refused why = rw (refusal_not_0 why)
 
-  told_accepted : (c : Call) (v : Values) → r.ask ≡ OnTable c → told_by l (event r (Accepted v)) ≡ told_call l (numbers_of (Accepted v)) (OnTable c)
+  told_accepted : (c : Call) (v : Values) → r.ask ≡ OnTable c → told_by l (event r (Ok v)) ≡ told_call l (numbers_of (Ok v)) (OnTable c)
   unfolding told_by is_accepted
   told_accepted c v asks = rw (eq-eqb _ 0 (accepted_0 v), asks)
 
@@ -114,7 +112,7 @@ module _ (o : Opening) (l : Line) (t : Table) (A : Agrees o l t) where
       let limit = rw (agrees_limit o l t A t.count (le_refl _), agrees_count o l t A) at a.near in
       let v = Entered k.full k.growth e.head in
       let now = told_accepted l r (Enter e) v asks in
-      let new = told_entering e (numbers_of (Accepted v)) in
+      let new = told_entering e (numbers_of (Ok v)) in
       let steady : Steady t.settings (limit_in t.settings (first_limit t.settings) xs (length xs)) new =
       record { consist = sym (figures_entered t.settings e) ∙ a.figures; guarded = guarded_entering _ _ e k (given_sound e.load e.length k a.figures) a.long limit; held_slows = tt; braked_slows = tt } in
       rw now
@@ -156,7 +154,7 @@ agrees_list o [] l t A = A
 agrees_list o (d ∷ ds) l t A = agrees_list o ds _ _ (next_deed o l t A d)
 
 -- on the table that an accepted opening made
-pub agrees : (o : Opening) (t : Table) → open_step o ≡ outcome (Accepted Zeros) t → (ds : List Deed)
+pub agrees : (o : Opening) (t : Table) → open_step o ≡ outcome (Ok Zeros) t → (ds : List Deed)
     → Agrees o (told o (history t ds)) (after t ds)
 unfolding told
 agrees o t opens ds =

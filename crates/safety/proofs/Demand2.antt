@@ -3,7 +3,7 @@
 -- motion/proofs/Sentences and OrderSentences, of figures in brake/proofs/Sentences. Entering and taking off, which ask no list, are in line/proofs/Rules.
 -- `step` is what a call comes to by a caller with the right (line/proofs/Rights: call_rightful).
 -- Assumes nothing.
-use Rattle.std.specs.Prelude.{Some}
+use Rattle.std.specs.Prelude.{Some, Ok, Err}
 use Prim.Native.Nat.{ℕ, suc, ◌+◌, ◌*◌, ◌≤◌, ◌<◌}
 use mathlib.Core.Bool.{Bool, true, false}
 use mathlib.Core.List.{List, ◌∷◌, ◌++◌}
@@ -27,7 +27,6 @@ use Rattle.calls.specs.declared.Extension.{Extension}
 use Rattle.calls.specs.declared.Act.TheVariants.{Report, Extend, CallBack, Hold, Lift}
 use Rattle.calls.specs.declared.Call.TheVariants.{Own}
 use Rattle.calls.specs.declared.Refusal.TheVariants.{NotAllowed, BadRequest, OldNumber, OtherLength, NoTrack, BadPlace, Pending}
-use Rattle.calls.specs.declared.Answer.TheVariants.{Accepted, Refused}
 use Rattle.calls.specs.declared.Values.TheVariants.{Ordered, Extended, Zeros}
 use Rattle.train.specs.declared.Authority.{Authority}
 use Rattle.train.specs.declared.Train.{Train}
@@ -53,7 +52,7 @@ use Rattle.safety.proofs.Plain.{demand_3_plainly}
 use Rattle.safety.proofs.Calls.{agrees}
 use Rattle.safety.proofs.Bounds.{tells, always_computable, report_judged}
 
-module _ (o : Opening) (t : Table) (opened : open_step o ≡ outcome (Accepted Zeros) t) (ds : List Deed) where
+module _ (o : Opening) (t : Table) (opened : open_step o ≡ outcome (Ok Zeros) t) (ds : List Deed) where
   abbrev now : Table
   now = after t ds
 
@@ -95,7 +94,7 @@ module _ (o : Opening) (t : Table) (opened : open_step o ≡ outcome (Accepted Z
       Allowed = Allows x.figures x.motion x.order r
 
       -- 9
-      pub report_refused : (Allowed → ⊥) → step now (Own id (Report r)) ≡ outcome (Refused NotAllowed) now
+      pub report_refused : (Allowed → ⊥) → step now (Own id (Report r)) ≡ outcome (Err NotAllowed) now
       report_refused worse = own_step now id i found (Report r) _ (report_9 now.settings (limit_at now i) x r worse)
 
       -- "a brake order starts at the level found after the last cycle"
@@ -112,7 +111,7 @@ module _ (o : Opening) (t : Table) (opened : open_step o ≡ outcome (Accepted Z
       -- the answer is the order and its reach; the record has what was reported, that order, and the mark of a penalty brake that they make
       pub report_accepted : Allowed
           → step now (Own id (Report r))
-          ≡ outcome (Accepted (Ordered given (reach x.figures m given))) (changed now (Put i (same x m given then (record { held = x.marks.held; penalty = is_penalty x.figures m given }))))
+          ≡ outcome (Ok (Ordered given (reach x.figures m given))) (changed now (Put i (same x m given then (record { held = x.marks.held; penalty = is_penalty x.figures m given }))))
       report_accepted so =
           own_step now id i found (Report r) _
           (report_answered now.settings (limit_at now i) x r (report_judged o t opened ds i below r ∙ (report_exactly x r).1 so))
@@ -183,78 +182,78 @@ module _ (o : Opening) (t : Table) (opened : open_step o ≡ outcome (Accepted Z
 
     module _ (q : Extension) where
       -- 10
-      pub extend_10 : (WellFormed now.settings q → ⊥) → step now (Own id (Extend q)) ≡ outcome (Refused BadRequest) now
+      pub extend_10 : (WellFormed now.settings q → ⊥) → step now (Own id (Extend q)) ≡ outcome (Err BadRequest) now
       extend_10 out = own_step now id i found (Extend q) _ (extension_10 now.settings (limit_at now i) x q out)
 
       module _ (a : WellFormed now.settings q) where
         -- 11
-        pub extend_11 : (q.number ≤ x.authority.start) ⊎ (q.number < x.authority.number) → step now (Own id (Extend q)) ≡ outcome (Refused OldNumber) now
+        pub extend_11 : (q.number ≤ x.authority.start) ⊎ (q.number < x.authority.number) → step now (Own id (Extend q)) ≡ outcome (Err OldNumber) now
         extend_11 old = own_step now id i found (Extend q) _ (extension_11 now.settings (limit_at now i) x q a old)
 
         module _ (above : x.authority.start < q.number) where
           -- 12
-          pub extend_12 : q.number ≡ x.authority.number → (q.length ≡ x.authority.length → ⊥) → step now (Own id (Extend q)) ≡ outcome (Refused OtherLength) now
+          pub extend_12 : q.number ≡ x.authority.number → (q.length ≡ x.authority.length → ⊥) → step now (Own id (Extend q)) ≡ outcome (Err OtherLength) now
           extend_12 last other = own_step now id i found (Extend q) _ (extension_12 now.settings (limit_at now i) x q a above last other)
 
           -- the repeat; of one accepted longer ago, and after which calls, is said in Repeats
           pub extend_again : q.number ≡ x.authority.number → q.length ≡ x.authority.length
-              → step now (Own id (Extend q)) ≡ outcome (Accepted (Extended x.authority.end true)) now
+              → step now (Own id (Extend q)) ≡ outcome (Ok (Extended x.authority.end true)) now
           extend_again last length =
               own_step now id i found (Extend q) _ (extension_repeated now.settings (limit_at now i) x q a above last length)
-              ∙ ap (outcome (Accepted (Extended x.authority.end true))) (put_same now i x refl)
+              ∙ ap (outcome (Ok (Extended x.authority.end true))) (put_same now i x refl)
 
           module _ (new : x.authority.number < q.number) where
             -- 17, "as an exception to the track rule": whether the track is there or not
-            pub extend_17 : (x.authority.goal ≡ x.authority.end → ⊥) → step now (Own id (Extend q)) ≡ outcome (Refused Pending) now
+            pub extend_17 : (x.authority.goal ≡ x.authority.end → ⊥) → step now (Own id (Extend q)) ≡ outcome (Err Pending) now
             extend_17 pending = own_step now id i found (Extend q) _ (extension_17 now.settings (limit_at now i) x q a above new pending)
 
             -- "A new, well-formed request by a train on the line is refused exactly when the track is not there": 13, or end + length
             module _ (free : x.authority.goal ≡ x.authority.end) where
-              pub extend_13 : (InLimit (limit_at now i) (x.authority.end + q.length) → ⊥) → step now (Own id (Extend q)) ≡ outcome (Refused NoTrack) now
+              pub extend_13 : (InLimit (limit_at now i) (x.authority.end + q.length) → ⊥) → step now (Own id (Extend q)) ≡ outcome (Err NoTrack) now
               extend_13 beyond = own_step now id i found (Extend q) _ (extension_13 now.settings (limit_at now i) x q a above new free beyond)
 
               pub extend_accepted : InLimit (limit_at now i) (x.authority.end + q.length)
                   → let longer : Authority =
                   record { end = x.authority.end + q.length; goal = x.authority.end + q.length; start = x.authority.start; number = q.number; length = q.length } in
                   step now (Own id (Extend q))
-                  ≡ outcome (Accepted (Extended (x.authority.end + q.length) false)) (changed now (Put i (same x x.motion x.order longer x.marks)))
+                  ≡ outcome (Ok (Extended (x.authority.end + q.length) false)) (changed now (Put i (same x x.motion x.order longer x.marks)))
               extend_accepted within = own_step now id i found (Extend q) _ (extension_taken now.settings (limit_at now i) x q a above new free within)
 
     -- 14, "a place behind the head or beyond the end"
     pub call_back_refused : (place : ℕ) → (place < x.motion.head) ⊎ (x.authority.end < place)
-        → step now (Own id (CallBack place)) ≡ outcome (Refused BadPlace) now
+        → step now (Own id (CallBack place)) ≡ outcome (Err BadPlace) now
     call_back_refused place out = own_step now id i found (CallBack place) _ (call_back_14 now.settings (limit_at now i) x place out)
 
     -- "the end becomes a named place from reach to end, both included"
     pub call_back_accepted : (place : ℕ) → reach x.figures x.motion x.order ≤ place → place ≤ x.authority.end
         → let nearer : Authority = record { end = place; goal = place; start = x.authority.start; number = x.authority.number; length = x.authority.length } in
-        step now (Own id (CallBack place)) ≡ outcome (Accepted Zeros) (changed now (Put i (same x x.motion x.order nearer x.marks)))
+        step now (Own id (CallBack place)) ≡ outcome (Ok Zeros) (changed now (Put i (same x x.motion x.order nearer x.marks)))
     call_back_accepted place low high =
         own_step now id i found (CallBack place) _ (call_back_moves now.settings (limit_at now i) x place (always_computable o t opened ds i below) low high)
 
     -- "from the train's head up to just short of its reach": pending
     pub call_back_pending : (place : ℕ) → x.motion.head ≤ place → place < reach x.figures x.motion x.order → place ≤ x.authority.end
         → let waiting : Authority = record { end = x.authority.end; goal = place; start = x.authority.start; number = x.authority.number; length = x.authority.length } in
-        step now (Own id (CallBack place)) ≡ outcome (Accepted Zeros) (changed now (Put i (same x x.motion x.order waiting x.marks)))
+        step now (Own id (CallBack place)) ≡ outcome (Ok Zeros) (changed now (Put i (same x x.motion x.order waiting x.marks)))
     call_back_pending place low short high =
         own_step now id i found (CallBack place) _ (call_back_pends now.settings (limit_at now i) x place (always_computable o t opened ds i below) low short high)
 
     -- hold and lift are taken always, and change their mark alone: "Lifting a hold does not shorten" a penalty brake
-    pub hold_accepted : step now (Own id Hold) ≡ outcome (Accepted Zeros) (changed now (Put i (same x x.motion x.order x.authority (record { held = true; penalty = x.marks.penalty }))))
+    pub hold_accepted : step now (Own id Hold) ≡ outcome (Ok Zeros) (changed now (Put i (same x x.motion x.order x.authority (record { held = true; penalty = x.marks.penalty }))))
     hold_accepted = own_step now id i found Hold _ (hold_marks now.settings (limit_at now i) x)
 
-    pub lift_accepted : step now (Own id Lift) ≡ outcome (Accepted Zeros) (changed now (Put i (same x x.motion x.order x.authority (record { held = false; penalty = x.marks.penalty }))))
+    pub lift_accepted : step now (Own id Lift) ≡ outcome (Ok Zeros) (changed now (Put i (same x x.motion x.order x.authority (record { held = false; penalty = x.marks.penalty }))))
     lift_accepted = own_step now id i found Lift _ (lift_unmarks now.settings (limit_at now i) x)
 
     -- "Both may be repeated without effect."
     mark_stays : (b : Bool) → x.marks.held ≡ b → changed now (Put i (same x x.motion x.order x.authority (record { held = b; penalty = x.marks.penalty }))) ≡ now
     mark_stays b already = put_same now i _ (ap (λ (c : Bool). same x x.motion x.order x.authority (record { held = c; penalty = x.marks.penalty })) (sym already))
 
-    pub hold_again : x.marks.held ≡ true → step now (Own id Hold) ≡ outcome (Accepted Zeros) now
-    hold_again held = hold_accepted ∙ ap (outcome (Accepted Zeros)) (mark_stays true held)
+    pub hold_again : x.marks.held ≡ true → step now (Own id Hold) ≡ outcome (Ok Zeros) now
+    hold_again held = hold_accepted ∙ ap (outcome (Ok Zeros)) (mark_stays true held)
 
-    pub lift_again : x.marks.held ≡ false → step now (Own id Lift) ≡ outcome (Accepted Zeros) now
-    lift_again free = lift_accepted ∙ ap (outcome (Accepted Zeros)) (mark_stays false free)
+    pub lift_again : x.marks.held ≡ false → step now (Own id Lift) ≡ outcome (Ok Zeros) now
+    lift_again free = lift_accepted ∙ ap (outcome (Ok Zeros)) (mark_stays false free)
 
   -- ---- the track that is there
 

@@ -1,6 +1,6 @@
 -- Demand 3: after every list of deeds on the table that an accepted opening made, the claim holds and the table agrees with it.
 -- Assumes nothing.
-use Rattle.std.specs.Prelude.{Option, None, Some, option_map}
+use Rattle.std.specs.Prelude.{Option, None, Some, option_map, Ok}
 use Prim.Native.Nat.{ℕ, zero, suc, ◌≤◌}
 use mathlib.Core.List.{List, [], ◌∷◌}
 use mathlib.Core.Path.{◌≡◌, refl, subst}
@@ -9,11 +9,9 @@ use Rattle.motion.proofs.Slowing.{slowed_stands}
 use Rattle.calls.specs.declared.Opening.{Opening}
 use Rattle.train.specs.declared.Settings.{Settings}
 use Rattle.train.specs.Ranges.{WorksWith}
-use Rattle.train.specs.declared.Limit.{Limit}
 use Rattle.train.specs.Track.{limit_behind}
 use Rattle.train.proofs.Track.{InLimit, limit_first, in_behind}
 use Rattle.table.specs.declared.Table.{Table}
-use Rattle.calls.specs.declared.Answer.TheVariants.{Accepted}
 use Rattle.calls.specs.declared.Values.TheVariants.{Zeros}
 use Rattle.line.specs.Step.{outcome, open_step}
 use Rattle.safety.specs.History.{Deed, history, Told, told, rear_of}
@@ -30,7 +28,7 @@ rear_head x = omega arith
 
 -- a table whose settings have the numbers that o opened
 module _ (o : Opening) (σ : Settings) (works : WorksWith o σ) where
-  module _ (limit : Limit) (x : Told) (t : Steady σ limit x) where
+  module _ (limit : Option ℕ) (x : Told) (t : Steady σ limit x) where
     head_end : x.now.last.head ≤ x.now.authority.end
     unfolding record_of
     head_end = guarded_head σ limit (record_of x) t.guarded
@@ -62,7 +60,7 @@ module _ (o : Opening) (σ : Settings) (works : WorksWith o σ) where
     end_behind : (a : Told) → limit ≡ behind σ a → Separate o (Some a) x
     unfolding record_of rear_of
     end_behind a e =
-        let limited : InLimit (behind σ a) x.now.authority.end = subst (λ (l : Limit). InLimit l x.now.authority.end) e t.guarded.end_in_limit in
+        let limited : InLimit (behind σ a) x.now.authority.end = subst (λ (l : Option ℕ). InLimit l x.now.authority.end) e t.guarded.end_in_limit in
         let sum = in_behind σ (record_of a) x.now.authority.end limited in
         let safety = works.safety in
         omega arith
@@ -77,7 +75,7 @@ module _ (o : Opening) (σ : Settings) (works : WorksWith o σ) where
       (omega arith, clear p x xs (omega arith) l.2)
 
   -- the limit is the one behind `ahead`
-  safe : (ahead : Option Told) (limit : Limit) (xs : List Told) → limit ≡ limit_behind σ (option_map record_of ahead) → Lined σ limit xs → Safe o ahead xs
+  safe : (ahead : Option Told) (limit : Option ℕ) (xs : List Told) → limit ≡ limit_behind σ (option_map record_of ahead) → Lined σ limit xs → Safe o ahead xs
   safe ahead limit [] e l = tt
   safe ahead limit (x ∷ xs) e l =
       (alone limit x l.0, separate ahead e, clear x x xs (omega arith) l.2, safe (Some x) _ xs refl l.2)
@@ -87,7 +85,7 @@ module _ (o : Opening) (σ : Settings) (works : WorksWith o σ) where
       separate (Some a) e = end_behind limit x l.0 a e
 
 -- for every accepted opening and every list of deeds on the table that it made, by any callers
-pub demand_3 : (o : Opening) (t : Table) → open_step o ≡ outcome (Accepted Zeros) t → (ds : List Deed) → Demand3 o t ds
+pub demand_3 : (o : Opening) (t : Table) → open_step o ≡ outcome (Ok Zeros) t → (ds : List Deed) → Demand3 o t ds
 unfolding Claim
 demand_3 o t opened ds =
     let A = agrees o t opened ds in

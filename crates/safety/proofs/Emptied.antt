@@ -1,12 +1,12 @@
 -- A line that its trains have left. Whatever was called since its opening, its table is the one that the opening made, spare places included: so
 -- what is called from then on is answered as on a line just opened.
 -- Assumes nothing.
+use Rattle.std.specs.Prelude.{Ok}
 use mathlib.Core.Bool.{true}
 use mathlib.Core.List.{List, [], ◌∷◌}
 use mathlib.Core.Path.{◌≡◌, refl, sym, ap, subst, ◌∙◌}
 use lib.ListN.{length}
 use Rattle.calls.specs.declared.Opening.{Opening}
-use Rattle.calls.specs.declared.Answer.TheVariants.{Accepted}
 use Rattle.calls.specs.declared.Values.TheVariants.{Zeros}
 use Rattle.train.specs.Ranges.{settings_of}
 use Rattle.table.specs.declared.Table.{Table}
@@ -27,7 +27,7 @@ tidy_after (made r ∷ ds) t tidy =
 tidy_after (tried r ∷ ds) t tidy = tidy_after ds t tidy
 
 -- on the table that an accepted opening made, whatever is called, by whomever
-module _ (o : Opening) (t : Table) (opened : open_step o ≡ outcome (Accepted Zeros) t) (ds : List Deed) where
+module _ (o : Opening) (t : Table) (opened : open_step o ≡ outcome (Ok Zeros) t) (ds : List Deed) where
   new : t ≡ empty_table (settings_of o)
   new = (open_made o t opened).1
 

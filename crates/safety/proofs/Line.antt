@@ -1,6 +1,6 @@
 -- The invariant of the trains on a line, and what accepted calls make of it: an act, an entering and a taking off.
 -- Assumes nothing.
-use Rattle.std.specs.Prelude.{None, Some}
+use Rattle.std.specs.Prelude.{None, Some, Ok, Option}
 use Prim.Native.Nat.{ℕ, zero, suc, ◌≤◌, ◌<◌}
 use mathlib.Core.List.{List, [], ◌∷◌, ◌++◌, map}
 use mathlib.Core.Path.{◌≡◌, refl, sym, ap, subst}
@@ -10,13 +10,11 @@ use lib.Dec.{eqb}
 use borrow.Author.Tests.{eq-eqb, ne_eqb}
 use Rattle.logic.proofs.Tests.{by_test}
 use Rattle.calls.specs.declared.Act.{Act}
-use Rattle.calls.specs.declared.Answer.TheVariants.{Accepted}
 use Rattle.calls.specs.declared.Numbers.{Numbers}
 use Rattle.calls.specs.Answers.{numbers_of}
 use Rattle.calls.specs.Checks.{first_of}
 use Rattle.train.specs.declared.Settings.{Settings}
 use Rattle.train.specs.declared.Train.{Train}
-use Rattle.train.specs.declared.Limit.{Limit}
 use Rattle.train.specs.Track.{steps_of, limit_behind}
 use Rattle.acts.specs.Decide.{decide}
 use Rattle.train.proofs.Track.{InLimit, limit_first, in_behind, behind_in}
@@ -28,30 +26,30 @@ use Rattle.safety.proofs.Acts.{Steady, after_act, act_kept}
 use Rattle.safety.proofs.Finding.{Absent, IsAt}
 
 -- the limits of the first train and of the one behind x
-abbrev pub first_limit : Settings → Limit
+abbrev pub first_limit : Settings → Option ℕ
 first_limit σ = limit_behind σ None
 
-abbrev pub behind : Settings → Told → Limit
+abbrev pub behind : Settings → Told → Option ℕ
 behind σ x = limit_behind σ (Some (record_of x))
 
 -- all trains from one with this limit on; no two have one id
-abbrev pub Lined : Settings → Limit → List Told → Type 0
+abbrev pub Lined : Settings → Option ℕ → List Told → Type 0
 Lined σ limit [] = Unit {0}
 Lined σ limit (x ∷ xs) = Steady σ limit x × Absent x.entry.id xs × Lined σ (behind σ x) xs
 
 -- the limit at place i, where the first of them has this one
-abbrev pub limit_in : Settings → Limit → List Told → ℕ → Limit
+abbrev pub limit_in : Settings → Option ℕ → List Told → ℕ → Option ℕ
 limit_in σ limit xs zero = limit
 limit_in σ limit [] (suc i) = limit
 limit_in σ limit (x ∷ xs) (suc i) = limit_in σ (behind σ x) xs i
 
 -- the train at place i
-pub record Placed (σ : Settings) (limit : Limit) (xs : List Told) (i : ℕ) : Type 0 where
+pub record Placed (σ : Settings) (limit : Option ℕ) (xs : List Told) (i : ℕ) : Type 0 where
   pub train : Told
   pub here : get_or (map record_of xs) i blank_train ≡ record_of train
   pub steady : Steady σ (limit_in σ limit xs i) train
 
-pub lined_at : (σ : Settings) (limit : Limit) (xs : List Told) (i : ℕ) → Lined σ limit xs → i < length xs → Placed σ limit xs i
+pub lined_at : (σ : Settings) (limit : Option ℕ) (xs : List Told) (i : ℕ) → Lined σ limit xs → i < length xs → Placed σ limit xs i
 lined_at σ limit [] i l h = absurd (omega arith)
 lined_at σ limit (x ∷ xs) zero l h = record { train = x; here = refl; steady = l.0 }
 lined_at σ limit (x ∷ xs) (suc i) l h =
@@ -61,10 +59,10 @@ lined_at σ limit (x ∷ xs) (suc i) l h =
 -- ---- another limit
 
 -- whatever is within the limit a is within the limit b
-abbrev pub Wider : Limit → Limit → Type 0
+abbrev pub Wider : Option ℕ → Option ℕ → Type 0
 Wider a b = (place : ℕ) → InLimit a place → InLimit b place
 
-lined_wider : (σ : Settings) (a b : Limit) → Wider a b → (xs : List Told) → Lined σ a xs → Lined σ b xs
+lined_wider : (σ : Settings) (a b : Option ℕ) → Wider a b → (xs : List Told) → Lined σ a xs → Lined σ b xs
 lined_wider σ a b wider [] l = tt
 lined_wider σ a b wider (x ∷ xs) l =
     let g = l.0.guarded in
@@ -85,7 +83,7 @@ wider_head : (σ : Settings) (x y : Train) → y.length ≡ x.length → x.motio
 wider_head σ x y same h place limited = let steps = ap steps_of same in let sum = in_behind σ x place limited in behind_in σ y place (omega arith)
 
 -- the line end, where the train ahead was not beyond it
-pub wider_end : (σ : Settings) (limit : Limit) (x : Train) → Guarded σ limit x → x.authority.end ≤ σ.end
+pub wider_end : (σ : Settings) (limit : Option ℕ) (x : Train) → Guarded σ limit x → x.authority.end ≤ σ.end
     → Wider (limit_behind σ (Some x)) (first_limit σ)
 wider_end σ limit x g end place limited =
     let head = guarded_head σ limit x g in
@@ -109,17 +107,17 @@ module _ (σ : Settings) (id : ℕ) (a : Act) where
       (λ e. rw e (absent.0, act_absent j n xs absent.1))
 
   -- accepted, of the train x with this limit
-  abbrev Passes : Limit → Train → Type 0
+  abbrev Passes : Option ℕ → Train → Type 0
   Passes limit x = first_of (decide σ limit x a).checks ≡ None
 
-  abbrev answer_of : Limit → Train → Numbers
-  answer_of limit x = numbers_of (Accepted (decide σ limit x a).gives)
+  abbrev answer_of : Option ℕ → Train → Numbers
+  answer_of limit x = numbers_of (Ok (decide σ limit x a).gives)
 
   -- the trains ys afterwards, the train x at place i having acted
-  abbrev Follows : Limit → List Told → ℕ → Limit → Train → List Told → Type 0
+  abbrev Follows : Option ℕ → List Told → ℕ → Option ℕ → Train → List Told → Type 0
   Follows limit xs i mine x ys = Lined σ limit ys × (map record_of ys ≡ set (map record_of xs) i (decide σ mine x a).after)
 
-  pub lined_act : (limit : Limit) (xs : List Told) (i : ℕ) → Lined σ limit xs → IsAt id xs i
+  pub lined_act : (limit : Option ℕ) (xs : List Told) (i : ℕ) → Lined σ limit xs → IsAt id xs i
       → let mine = limit_in σ limit xs i in
       let x = get_or (map record_of xs) i blank_train in
       Passes mine x → Follows limit xs i mine x (map (told_own id (answer_of mine x) a) xs)
@@ -143,7 +141,7 @@ absent_last : (id : ℕ) (xs : List Told) (x : Told) → Absent id xs → (x.ent
 absent_last id [] x a e = (e, tt)
 absent_last id (u ∷ xs) x a e = (a.0, absent_last id xs x a.1 e)
 
-pub lined_enter : (σ : Settings) (limit : Limit) (xs : List Told) (x : Told) → Lined σ limit xs → Absent x.entry.id xs
+pub lined_enter : (σ : Settings) (limit : Option ℕ) (xs : List Told) (x : Told) → Lined σ limit xs → Absent x.entry.id xs
     → Steady σ (limit_in σ limit xs (length xs)) x → Lined σ limit (xs ++ (x ∷ []))
 lined_enter σ limit [] x l a t = (t, tt, tt)
 lined_enter σ limit (u ∷ xs) x l a t =

@@ -1,7 +1,7 @@
 -- Document 02, (vi), over every list of deeds: what a pending call back leaves as it is, and when it ends. `step` is what a call comes to by a
 -- caller with the right; one without it leaves the table (line/proofs/Rights: call_16).
 -- Assumes nothing.
-use Rattle.std.specs.Prelude.{Option, None, Some}
+use Rattle.std.specs.Prelude.{Option, None, Some, Ok, Err}
 use Prim.Native.Nat.{ℕ, zero, suc, ◌+◌, ◌≤◌, ◌<◌}
 use mathlib.Core.Bool.{true}
 use mathlib.Core.List.{List, [], ◌∷◌, ◌++◌}
@@ -34,14 +34,12 @@ use Rattle.calls.specs.declared.Ask.TheVariants.{Open, OnTable}
 use Rattle.calls.specs.declared.Request.{Request}
 use Rattle.calls.specs.declared.Refusal.{Refusal}
 use Rattle.calls.specs.declared.Refusal.TheVariants.{NotLeaving}
-use Rattle.calls.specs.declared.Answer.TheVariants.{Accepted, Refused}
 use Rattle.calls.specs.declared.Values.TheVariants.{Zeros}
 use Rattle.calls.specs.Answers.{numbers_of}
 use Rattle.calls.specs.Requests.{request}
 use Rattle.calls.specs.Checks.{first_of}
 use Rattle.calls.proofs.Checks.{passed}
 use Rattle.train.specs.declared.Settings.{Settings}
-use Rattle.train.specs.declared.Limit.{Limit}
 use Rattle.train.specs.declared.Train.{Train}
 use Rattle.train.specs.Report.{reach_of, allowed, motion_after, reported}
 use Rattle.train.proofs.Checks.{report_allowed_lem, allowed_no_worse}
@@ -74,7 +72,7 @@ Braking ceiling (suc n) x = (x.order ≡ Brake) × (0 < x.motion.speed) × Slowe
 abbrev pub Waiting : ℕ → Table → Type 0
 Waiting id t = Holds (λ (x : Train). x.authority.goal ≡ x.authority.end → ⊥) id t
 
-module _ (o : Opening) (t : Table) (opened : open_step o ≡ outcome (Accepted Zeros) t) (ds : List Deed) where
+module _ (o : Opening) (t : Table) (opened : open_step o ≡ outcome (Ok Zeros) t) (ds : List Deed) where
   abbrev now : Table
   now = after t ds
 
@@ -82,7 +80,7 @@ module _ (o : Opening) (t : Table) (opened : open_step o ≡ outcome (Accepted Z
     abbrev x : Train
     x = train_at now i
 
-    abbrev limit : Limit
+    abbrev limit : Option ℕ
     limit = limit_at now i
 
     guarded : Guarded now.settings limit x
@@ -96,7 +94,7 @@ module _ (o : Opening) (t : Table) (opened : open_step o ≡ outcome (Accepted Z
     pending_short = guarded.aims.short
 
     -- the train is not taken off meanwhile: it does not stand under brake
-    pub pending_stays : (x.authority.goal ≡ x.authority.end → ⊥) → step now (TakeOff id) ≡ outcome (Refused NotLeaving) now
+    pub pending_stays : (x.authority.goal ≡ x.authority.end → ⊥) → step now (TakeOff id) ≡ outcome (Err NotLeaving) now
     pending_stays pending = take_off_15 now id i found (λ leaves. pending (guarded.at_rest leaves.2 leaves.1))
 
     -- the train's record after an act of it, whether it was taken or not
@@ -189,7 +187,7 @@ module _ (o : Opening) (t : Table) (opened : open_step o ≡ outcome (Accepted Z
 -- ---- how long one is pending
 
 -- no act but a report touches motion and order
-braking_act : (ceiling n : ℕ) (σ : Settings) (limit : Limit) (x : Train) (a : Act) → ((r : Reading) → a ≡ Report r → ⊥)
+braking_act : (ceiling n : ℕ) (σ : Settings) (limit : Option ℕ) (x : Train) (a : Act) → ((r : Reading) → a ≡ Report r → ⊥)
     → Braking ceiling n x → Braking ceiling n (decide σ limit x a).after
 unfolding extended called_back
 braking_act ceiling zero σ limit x a other brakes = tt
@@ -226,7 +224,7 @@ follows t before u d is = ap (λ (w : Table). (done w d).table) is ∙ sym (afte
 abbrev event_of : Table → Deed → Event
 event_of u d = record { deed = d; answer = numbers_of (done u d).answer }
 
-module _ (o : Opening) (t : Table) (opened : open_step o ≡ outcome (Accepted Zeros) t) (id : ℕ) where
+module _ (o : Opening) (t : Table) (opened : open_step o ≡ outcome (Ok Zeros) t) (id : ℕ) where
   -- a deed that is no accepted report of the train leaves what its reports have come to
   abbrev Another : ℕ → Deed → Table → Type 0
   Another n d u =

@@ -1,7 +1,7 @@
 -- Demand 3, said a second time: what the claim comes to for the trains that a history tells of, in numbers and fields alone; and what each
 -- accepted act tells of its train. A claim that is weaker, or words that tell less, are refused here for every number.
 -- Assumes nothing.
-use Rattle.std.specs.Prelude.{Option, None, Some, is_some}
+use Rattle.std.specs.Prelude.{Option, None, Some, is_some, Ok}
 use Prim.Native.Nat.{ℕ, ◌+◌, ◌*◌, ◌≤◌, ◌<◌}
 use mathlib.Core.List.{List, [], ◌∷◌, ◌++◌, map}
 use mathlib.Core.Path.{◌≡◌, refl, subst, ap, ◌∙◌}
@@ -24,7 +24,6 @@ use Rattle.calls.specs.declared.Reading.{Reading}
 use Rattle.calls.specs.declared.Extension.{Extension}
 use Rattle.calls.specs.declared.Act.TheVariants.{Report, Extend, CallBack, Hold, Lift}
 use Rattle.calls.specs.declared.Numbers.{Numbers}
-use Rattle.calls.specs.declared.Answer.TheVariants.{Accepted}
 use Rattle.calls.specs.declared.Values.TheVariants.{Zeros}
 use Rattle.train.specs.declared.Train.{Train}
 use Rattle.train.specs.Track.{steps_of}
@@ -167,7 +166,7 @@ module _ (o : Opening) (t : Table) (ds : List Deed) (d : Demand3 o t ds) where
       }
 
 -- after every list of deeds on the table that an accepted opening made
-pub demand_3_plainly : (o : Opening) (t : Table) → open_step o ≡ outcome (Accepted Zeros) t → (ds : List Deed)
+pub demand_3_plainly : (o : Opening) (t : Table) → open_step o ≡ outcome (Ok Zeros) t → (ds : List Deed)
     → let xs = (told o (history t ds)).trains in Plainly o xs × TableOf o xs (after t ds)
 demand_3_plainly o t opened ds = let d = demand_3 o t opened ds in (claimed o t ds d, tabled o t ds d)
 

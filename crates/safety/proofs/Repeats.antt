@@ -1,7 +1,7 @@
 -- Repeats, over every list of deeds: "the repeat of an accepted one in the same stay adds none". `step` is what a call comes to by a caller with
 -- the right; one without it leaves the table too (line/proofs/Rights: call_16).
 -- Assumes nothing.
-use Rattle.std.specs.Prelude.{Some}
+use Rattle.std.specs.Prelude.{Some, Ok, Err}
 use Prim.Native.Nat.{ℕ, ◌≤◌, ◌<◌}
 use mathlib.Core.Bool.{true}
 use mathlib.Core.List.{List, [], ◌∷◌}
@@ -18,13 +18,11 @@ use Rattle.calls.specs.declared.Ask.{Ask}
 use Rattle.calls.specs.declared.Ask.TheVariants.{Open, OnTable}
 use Rattle.calls.specs.declared.Request.{Request}
 use Rattle.calls.specs.declared.Refusal.{Refusal}
-use Rattle.calls.specs.declared.Answer.TheVariants.{Accepted}
 use Rattle.calls.specs.declared.Values.TheVariants.{Extended, Zeros}
 use Rattle.calls.specs.Answers.{numbers_of}
 use Rattle.calls.specs.Requests.{request}
 use Rattle.train.specs.declared.Train.{Train}
 use Rattle.train.specs.Ranges.{WorksWith}
-use Rattle.acts.specs.declared.Verdict.TheVariants.{TurnedDown, Passed}
 use Rattle.acts.specs.Acts.{is_repeat, extended}
 use Rattle.acts.specs.Decide.{decide, verdict}
 use Rattle.acts.proofs.Used.{extension_used, number_onward}
@@ -116,8 +114,8 @@ used_leaves t id q h = go (extension_used t.settings (limit_at t i) x q h.so.0 h
     x : Train
     x = train_at t i
 
-    go : ((r : Refusal) × (verdict (decide t.settings (limit_at t i) x (Extend q)) ≡ TurnedDown r))
-        ⊎ (verdict (decide t.settings (limit_at t i) x (Extend q)) ≡ Passed (Extended x.authority.end true) x)
+    go : ((r : Refusal) × (verdict (decide t.settings (limit_at t i) x (Extend q)) ≡ Err r))
+        ⊎ (verdict (decide t.settings (limit_at t i) x (Extend q)) ≡ Ok ((Extended x.authority.end true), x))
         → (step t (Own id (Extend q))).table ≡ t
     go (inl (r, e)) = rw (own_step t id i h.found (Extend q) _ e)
     go (inr e) = rw (own_step t id i h.found (Extend q) _ e) (put_same t i x refl)
@@ -170,7 +168,7 @@ works_after o (tried r ∷ ds) t works = works_after o ds t works
 -- ---- over every list of deeds
 
 -- on the line that an accepted opening made, after the calls `before`, the extension q of the train is called and accepted
-module _ (o : Opening) (t : Table) (opened : open_step o ≡ outcome (Accepted Zeros) t) (before : List Deed) (id : ℕ) (q : Extension)
+module _ (o : Opening) (t : Table) (opened : open_step o ≡ outcome (Ok Zeros) t) (before : List Deed) (id : ℕ) (q : Extension)
     (accepted : (numbers_of (step (after t before) (Own id (Extend q))).answer).number ≡ 0) where
   abbrev then : Table
   then = after t before
@@ -231,11 +229,11 @@ module _ (o : Opening) (t : Table) (opened : open_step o ≡ outcome (Accepted Z
 
     -- as the last accepted one, with its length, it is answered with the end of now and 1
     pub last_repeated : NoOther id q.number (history granted since) → (i : ℕ) → place_of now id ≡ Some i
-        → step now (Own id (Extend q)) ≡ outcome (Accepted (Extended (train_at now i).authority.end true)) now
+        → step now (Own id (Extend q)) ≡ outcome (Ok (Extended (train_at now i).authority.end true)) now
     last_repeated other i found =
         let h = lasts (Last q) id since granted sized last_now (last_all id q (history granted since) stays other) in
         let here : h.place ≡ i = cc h.found in
         let (above, number, length) = subst (λ (n : ℕ). Last q (train_at now n)) here h.so in
         own_step now id i found (Extend q) _
         (extension_repeated now.settings (limit_at now i) (train_at now i) q still_formed above (sym number) (sym length))
-        ∙ ap (outcome (Accepted (Extended (train_at now i).authority.end true))) (put_same now i (train_at now i) refl)
+        ∙ ap (outcome (Ok (Extended (train_at now i).authority.end true))) (put_same now i (train_at now i) refl)

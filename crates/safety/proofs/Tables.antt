@@ -1,6 +1,6 @@
 -- The invariant of a table under what the history tells, and how to read the table by the trains told.
 -- Assumes nothing.
-use Rattle.std.specs.Prelude.{None, Some}
+use Rattle.std.specs.Prelude.{None, Some, Option}
 use Prim.Native.Nat.{ℕ, zero, suc, ◌≤◌, ◌<◌}
 use mathlib.Core.List.{List, [], ◌∷◌, map}
 use mathlib.Core.Path.{◌≡◌, refl, sym, ◌∙◌, ap, subst}
@@ -9,7 +9,6 @@ use lib.ListN.{length, get_or, length-map}
 use Rattle.calls.specs.declared.Opening.{Opening}
 use Rattle.train.specs.declared.Settings.{Settings}
 use Rattle.train.specs.declared.Train.{Train}
-use Rattle.train.specs.declared.Limit.{Limit}
 use Rattle.train.specs.Ranges.{WorksWith}
 use Rattle.train.specs.Track.{limit_behind}
 use Rattle.table.specs.declared.Table.{Table}
@@ -28,7 +27,7 @@ pub record Agrees (o : Opening) (l : Line) (t : Table) : Type 0 where
   pub trains : on_line t ≡ map record_of l.trains
   pub lined : Lined t.settings (first_limit t.settings) l.trains
 
-limit_next : (σ : Settings) (limit : Limit) (xs : List Told) (i : ℕ) → i < length xs
+limit_next : (σ : Settings) (limit : Option ℕ) (xs : List Told) (i : ℕ) → i < length xs
     → limit_behind σ (Some (get_or (map record_of xs) i blank_train)) ≡ limit_in σ limit xs (suc i)
 limit_next σ limit [] i h = absurd (omega arith)
 limit_next σ limit (x ∷ xs) zero h = refl

@@ -1,5 +1,6 @@
 -- The invariant of one train's record on the line: at its entering, after a report, and where motion and order stay.
 -- Assumes nothing.
+use Rattle.std.specs.Prelude.{Option, ℕ}
 use Prim.Native.Nat.{◌≤◌}
 use mathlib.Core.Bool.{true}
 use mathlib.Core.Logic.{by_cases}
@@ -21,7 +22,6 @@ use Rattle.train.specs.declared.Settings.{Settings}
 use Rattle.train.specs.declared.Authority.{Authority}
 use Rattle.train.specs.declared.Marks.{Marks}
 use Rattle.train.specs.declared.Train.{Train}
-use Rattle.train.specs.declared.Limit.{Limit}
 use Rattle.train.specs.Record.{entering, same}
 use Rattle.train.specs.Track.{steps_of}
 use Rattle.train.specs.Report.{reach_of, allowed, motion_after, goal_of, order_after, reported}
@@ -36,7 +36,7 @@ AtRest x a = x.order ≡ Brake → x.motion.speed ≡ 0 → a.goal ≡ a.end
 
 -- A train with this limit: its rear is on the line, its end within the limit, its reach and the place that a call back wants within its end.
 -- Its figures and its motion are such as the laws of motion ask for.
-pub record Guarded (σ : Settings) (limit : Limit) (x : Train) : Type 0 where
+pub record Guarded (σ : Settings) (limit : Option ℕ) (x : Train) : Type 0 where
   pub figures : Sound x.figures
   pub rear_on_line : steps_of x.length ≤ x.motion.head
   pub end_in_limit : InLimit limit x.authority.end
@@ -45,10 +45,10 @@ pub record Guarded (σ : Settings) (limit : Limit) (x : Train) : Type 0 where
   pub at_rest : AtRest x x.authority
   pub within : Within x.figures σ.maxima x.motion x.order
 
-pub guarded_head : (σ : Settings) (limit : Limit) (x : Train) → Guarded σ limit x → x.motion.head ≤ x.authority.end
+pub guarded_head : (σ : Settings) (limit : Option ℕ) (x : Train) → Guarded σ limit x → x.motion.head ≤ x.authority.end
 guarded_head σ limit x g = le_trans (head_reach x.figures x.motion x.order) g.aims.reach
 
-pub guarded_entering : (σ : Settings) (limit : Limit) (e : Entry) (k : Figures)
+pub guarded_entering : (σ : Settings) (limit : Option ℕ) (e : Entry) (k : Figures)
     → Sound k → steps_of e.length ≤ e.head → InLimit limit e.head → Guarded σ limit (entering e k)
 guarded_entering σ limit e k sound long limited =
     let x = entering e k in
@@ -64,7 +64,7 @@ guarded_entering σ limit e k sound long limited =
 
 -- ---- acts
 
-module _ (σ : Settings) (limit : Limit) (x : Train) (g : Guarded σ limit x) where
+module _ (σ : Settings) (limit : Option ℕ) (x : Train) (g : Guarded σ limit x) where
   -- the end does not move forward
   pub report_aims : (r : Reading) → allowed x r ≡ true → let y = reported σ x r in (y.authority.end ≤ x.authority.end) × Aims (reach_of y) y.authority
   unfolding reported

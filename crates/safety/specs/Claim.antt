@@ -1,7 +1,6 @@
 -- Demand 3: what is claimed of a history on the line that an opening o made, in the opening's own numbers; and the table that a history
 -- tells of.
 use Rattle.std.specs.Prelude.{ℕ, ◌+◌, ◌≤◌, ◌≡◌, true, List, [], ◌∷◌, map, length, Option, None, Some, is_some}
-use Rattle.brake.specs.declared.FiguresFound.TheVariants.{Given}
 use Rattle.brake.specs.Consist.{figures_of}
 use Rattle.motion.specs.Motion.{stands}
 use Rattle.motion.specs.Count.{cycles_to_stand}
@@ -24,7 +23,7 @@ Stands x = stands x.figures x.now.last.speed x.now.level ≡ true
 -- of each train by itself: its figures are those of its load class and length, its rear is on the line, its head is at or before its end,
 -- and with so many reports it stands: held, or braked while moving, held or not. A stand ends the second count, so it never gets that far.
 pub record Alone (o : Opening) (x : Told) : Type 0 where
-  pub consist : figures_of x.entry.load x.entry.length ≡ Given x.figures
+  pub consist : figures_of x.entry.load x.entry.length ≡ Some x.figures
   pub rear_on_line : steps_of x.entry.length ≤ x.now.last.head
   pub head_within_end : x.now.last.head ≤ x.now.authority.end
   pub held_stands : (n : ℕ) → x.now.counts.held ≡ Some n → counted_reports o x ≤ n → Stands x

@@ -1,5 +1,6 @@
 -- Every answer of a session fits the columns of its output line, so that the line shows it whole. Assumes nothing.
-use Rattle.std.specs.Prelude.{None, Some}
+use Rattle.std.specs.Prelude.{None, Some, Option, Result, Ok, Err}
+use Rattle.calls.specs.declared.Request.{Request}
 use Prim.Native.Nat.{ℕ, ◌≤◌}
 use mathlib.Core.Path.{◌≡◌, sym, subst}
 use mathlib.Core.Bool.{Bool, true, false}
@@ -21,12 +22,8 @@ use Rattle.calls.specs.declared.Act.{Act}
 use Rattle.calls.specs.declared.Call.{Call}
 use Rattle.calls.specs.declared.Ask.{Ask}
 use Rattle.calls.specs.declared.Ask.TheVariants.{Open, OnTable}
-use Rattle.calls.specs.declared.RequestRead.{RequestRead}
-use Rattle.calls.specs.declared.RequestRead.TheVariants.{Read, Unreadable}
 use Rattle.calls.specs.declared.Refusal.{Refusal}
 use Rattle.calls.specs.declared.Refusal.TheVariants.{BadSetting, NoRight}
-use Rattle.calls.specs.declared.Answer.{Answer}
-use Rattle.calls.specs.declared.Answer.TheVariants.{Accepted, Refused}
 use Rattle.calls.specs.declared.Values.{Values}
 use Rattle.calls.specs.declared.Values.TheVariants.{Entered, Ordered, Extended, Zeros}
 use Rattle.calls.specs.declared.Numbers.{Numbers}
@@ -60,27 +57,27 @@ use Rattle.stream.proofs.Safe.{session_safe}
 abbrev pub shown_by : Numbers → List ℕ
 shown_by a = a.number ∷ a.first ∷ a.second ∷ a.third ∷ []
 
-abbrev Shown : Answer → Type 0
+abbrev Shown : Result Values Refusal → Type 0
 Shown a = Fits answer_columns (shown_by (numbers_of a))
 
 -- the answer to every line in the state s
 abbrev AllShown : Session → Type 0
-AllShown s = (r : RequestRead) → Shown (line_decision s r).answer
+AllShown s = (r : Option Request) → Shown (line_decision s r).answer
 
-refused_shown : (r : Refusal) → Shown (Refused r)
+refused_shown : (r : Refusal) → Shown (Err r)
 refused_shown r = let range = refusal_range r in omega arith
 
-ordered_shown : (o : Order) (r : ℕ) → order_cap o ≤ greatest_traction → r ≤ greatest_line_end → Shown (Accepted (Ordered o r))
+ordered_shown : (o : Order) (r : ℕ) → order_cap o ≤ greatest_traction → r ≤ greatest_line_end → Shown (Ok (Ordered o r))
 ordered_shown (Drive c) r h k = omega arith
 ordered_shown Brake r h k = omega arith
 
-extended_shown : (e : ℕ) (repeat : Bool) → e ≤ greatest_line_end → Shown (Accepted (Extended e repeat))
+extended_shown : (e : ℕ) (repeat : Bool) → e ≤ greatest_line_end → Shown (Ok (Extended e repeat))
 extended_shown e true h = omega arith
 extended_shown e false h = omega arith
 
 -- ---- a call on a table that calls left
 
-module _ (o : Opening) (t : Table) (opened : open_step o ≡ outcome (Accepted Zeros) t) (ds : List History.Deed) where
+module _ (o : Opening) (t : Table) (opened : open_step o ≡ outcome (Ok Zeros) t) (ds : List History.Deed) where
   abbrev left : Table
   left = History.after t ds
 
@@ -88,20 +85,20 @@ module _ (o : Opening) (t : Table) (opened : open_step o ≡ outcome (Accepted Z
   limit_fits : (i : ℕ) → i ≤ left.count → (place : ℕ) → InLimit (limit_at left i) place → place ≤ greatest_line_end
   limit_fits i h place limited = le_trans (limit_on_line o t opened ds i h place limited) (left_ranges o t opened ds).end
 
-  enter_shown : (e : Entry) (k : Figures) → Admitted left e k → Shown (Accepted (Entered k.full k.growth e.head))
+  enter_shown : (e : Entry) (k : Figures) → Admitted left e k → Shown (Ok (Entered k.full k.growth e.head))
   enter_shown e k a =
       let head = limit_fits left.count (le_refl _) e.head a.near in
       let sound = given_sound e.load e.length k a.figures in
       omega arith
 
   -- what an act gives is bounded by the settings and the limit
-  within_shown : (i : ℕ) → i ≤ left.count → (v : Values) → Within left.settings (limit_at left i) v → Shown (Accepted v)
+  within_shown : (i : ℕ) → i ≤ left.count → (v : Values) → Within left.settings (limit_at left i) v → Shown (Ok v)
   within_shown i h (Entered full growth e) w = absurd w
   within_shown i h (Ordered o r) w = ordered_shown o r (le_trans w.0 (left_ranges _ t opened ds).traction) (limit_fits i h r w.1)
   within_shown i h (Extended e repeat) w = extended_shown e repeat (limit_fits i h e w)
   within_shown i h Zeros w = omega arith
 
-  act_shown : (id i : ℕ) (a : Act) → place_of left id ≡ Some i → first_of (ruling_at left a i).checks ≡ None → Shown (Accepted (ruling_at left a i).gives)
+  act_shown : (id i : ℕ) (a : Act) → place_of left id ≡ Some i → first_of (ruling_at left a i).checks ≡ None → Shown (Ok (ruling_at left a i).gives)
   act_shown id i a q e =
       let below = found_below left id i q in
       let p = tells o t opened ds i below in
@@ -115,8 +112,8 @@ module _ (o : Opening) (t : Table) (opened : open_step o ≡ outcome (Accepted Z
 
   opened_shown : AllShown (session true left)
   unfolding line_decision
-  opened_shown (Read r) = any_request left (λ r d. Shown d.answer) (λ r why. refused_shown why) (λ r c asks. call_shown c) r
-  opened_shown Unreadable = omega arith
+  opened_shown (Some r) = any_request left (λ r d. Shown d.answer) (λ r why. refused_shown why) (λ r c asks. call_shown c) r
+  opened_shown None = omega arith
 
 -- ---- a line
 
@@ -128,12 +125,12 @@ opening_shown o =
 
 closed_shown : AllShown closed
 unfolding line_decision decided decide_on may_ask
-closed_shown (Read r) = go r.ask
+closed_shown (Some r) = go r.ask
   where
-    go : (a : Ask) → Shown (line_decision closed (Read (request r.caller a))).answer
+    go : (a : Ask) → Shown (line_decision closed (Some (request r.caller a))).answer
     go (Open o) = by_test (eqb r.caller dispatcher) (λ right. rw right (opening_shown o)) (λ lacks. rw lacks (refused_shown NoRight))
     go (OnTable c) = omega arith
-closed_shown Unreadable = omega arith
+closed_shown None = omega arith
 
 all_shown : (ls : List (List ℕ)) → (after closed ls ≡ closed) ⊎ Opened ls → AllShown (after closed ls)
 all_shown ls (inl e) = subst AllShown (sym e) closed_shown

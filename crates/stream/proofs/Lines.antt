@@ -1,4 +1,6 @@
 -- Laws of a session, byte by byte. Assumes nothing.
+use Rattle.std.specs.Prelude.{Option, Some, None}
+use Rattle.calls.specs.declared.Request.{Request}
 use Prim.Native.Nat.{ℕ, zero, suc, ◌+◌, ◌≤◌, ◌<◌}
 use native.Mathlib.Omega.{arith}
 use mathlib.Core.Path.{◌≡◌, refl, sym, ap, ◌∙◌}
@@ -11,8 +13,6 @@ use native.Mathlib.Numerals.{add-one}
 use borrow.Author.Tests.{eq-eqb, ne_eqb, eqb-true, eqb-false, leb-true, leb-false}
 use Rattle.logic.proofs.Tests.{by_test}
 use Rattle.wire.specs.Format.{call_width, row_in, request_by, line_read}
-use Rattle.calls.specs.declared.RequestRead.{RequestRead}
-use Rattle.calls.specs.declared.RequestRead.TheVariants.{Read, Unreadable}
 use Rattle.calls.specs.Answers.{numbers_of}
 use Rattle.table.specs.Table.{places, Fits}
 use Rattle.line.specs.declared.Decision.{Decision}
@@ -35,10 +35,10 @@ standing s g w bs = record { session = after s (lines g bs); begins = kept (rest
 -- ---- what is decided of a line
 
 -- the table has the place that the change needs
-pub line_fits : (s : Session) → length s.table.trains ≡ places → (r : RequestRead) (d : Decision) → d ≡ line_decision s r → Fits s.table d.change
+pub line_fits : (s : Session) → length s.table.trains ≡ places → (r : Option Request) (d : Decision) → d ≡ line_decision s r → Fits s.table d.change
 unfolding line_decision
-line_fits s size (Read r) d e = rw e (decided_fits s.opened s.table size r)
-line_fits s size Unreadable d e = rw e tt
+line_fits s size (Some r) d e = rw e (decided_fits s.opened s.table size r)
+line_fits s size None d e = rw e tt
 
 -- ---- of a line that is too long the kept bytes are enough
 
@@ -85,7 +85,7 @@ standing_kept s g w (b ∷ bs) =
     (λ e.
     let h : b ≡ 10 = eqb-true b 10 e in
     standing_line s (kept g) w b bs h
-    ∙ ap (λ (r : RequestRead). let q = replied s (line_decision s r) in standing q.session [] (w ++ output_line q.answer) bs) (read_kept g)
+    ∙ ap (λ (r : Option Request). let q = replied s (line_decision s r) in standing q.session [] (w ++ output_line q.answer) bs) (read_kept g)
     ∙ sym (standing_line s g w b bs h))
     (λ e.
     let h : (b ≡ 10 → ⊥) = eqb-false b 10 e in

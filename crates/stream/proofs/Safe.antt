@@ -1,4 +1,6 @@
 -- Demand 3 holds of what a session does, whatever lines it is given. Assumes nothing.
+use Rattle.std.specs.Prelude.{Option, Some, None}
+use Rattle.calls.specs.declared.Request.{Request}
 use Prim.Native.Nat.{ℕ}
 use mathlib.Core.Path.{◌≡◌, refl, ap, ◌∙◌}
 use mathlib.Core.Bool.{true}
@@ -10,8 +12,6 @@ use Rattle.logic.proofs.Tests.{by_test}
 use Rattle.calls.specs.declared.Opening.{Opening}
 use Rattle.calls.specs.declared.Ask.{Ask}
 use Rattle.calls.specs.declared.Ask.TheVariants.{Open, OnTable}
-use Rattle.calls.specs.declared.RequestRead.{RequestRead}
-use Rattle.calls.specs.declared.RequestRead.TheVariants.{Read, Unreadable}
 use Rattle.calls.specs.Requests.{request}
 use Rattle.rights.specs.Rights.{dispatcher, may_ask}
 use Rattle.train.specs.Ranges.{settings_in_range, settings_of}
@@ -34,7 +34,7 @@ use Rattle.stream.specs.Input.{after}
 use Rattle.stream.specs.Demand3.{deed_in, deeds_in, events_in, Opened}
 
 -- the reply to what was read
-abbrev pub replied_to : Session → RequestRead → Reply
+abbrev pub replied_to : Session → Option Request → Reply
 replied_to s r = replied s (line_decision s r)
 
 -- ---- since the opening
@@ -48,12 +48,12 @@ unfolding after line_decision deeds_in events_in History.after history
 follows t [] = (refl, refl)
 follows t (l ∷ ls) = go (line_read l) (λ u. follows u ls)
   where
-    go : (r : RequestRead) → ((u : Table) → Follows u ls)
+    go : (r : Option Request) → ((u : Table) → Follows u ls)
         → (after (replied_to (session true t) r).session ls ≡ session true (History.after t (deed_in r ++ deeds_in ls)))
         × (map (λ (d : Deed). record { deed = d; answer = (replied_to (session true t) r).answer }) (deed_in r) ++ events_in (replied_to (session true t) r).session ls ≡ history t (deed_in r ++ deeds_in ls))
-    go (Read r) next =
+    go (Some r) next =
         let f = next (requested true t r).table in (f.0, ap (λ (es : List Event). event r (requested true t r).answer ∷ es) f.1)
-    go Unreadable next = next t
+    go None next = next t
 
 -- ---- before it
 
@@ -61,8 +61,8 @@ abbrev Safe : List (List ℕ) → Type 0
 Safe ls = (after closed ls ≡ closed) ⊎ Opened ls
 
 module _ (l : List ℕ) (ls : List (List ℕ)) where
-  leaves : (r : RequestRead) → line_read l ≡ r → (answered closed l).session ≡ (replied_to closed r).session
-  leaves r e = ap (λ (q : RequestRead). (replied_to closed q).session) e
+  leaves : (r : Option Request) → line_read l ≡ r → (answered closed l).session ≡ (replied_to closed r).session
+  leaves r e = ap (λ (q : Option Request). (replied_to closed q).session) e
 
   -- a line that opens nothing alters nothing
   safe_skip : (answered closed l).session ≡ closed → Safe ls → Safe (l ∷ ls)
@@ -85,10 +85,10 @@ module _ (l : List ℕ) (ls : List (List ℕ)) where
         demand = o.demand;
       })
 
-  module _ (o : Opening) (read : line_read l ≡ Read (request 0 (Open o))) where
+  module _ (o : Opening) (read : line_read l ≡ Some (request 0 (Open o))) where
     opening_leaves : (d : Decision) → open_decision o ≡ d → (answered closed l).session ≡ (replied closed d).session
     unfolding line_decision decided decide_on may_ask
-    opening_leaves d e = leaves (Read (request 0 (Open o))) read ∙ ap (λ (v : Decision). (replied closed v).session) e
+    opening_leaves d e = leaves (Some (request 0 (Open o))) read ∙ ap (λ (v : Decision). (replied closed v).session) e
 
     safe_opened : settings_in_range o ≡ true → Opened (l ∷ ls)
     unfolding after open_step
@@ -119,21 +119,21 @@ module _ (l : List ℕ) (ls : List (List ℕ)) where
         (λ ok. inr (safe_opened ok))
         (λ bad. safe_skip (opening_leaves _ (open_refused o bad)) next)
 
-  safe_line : (r : RequestRead) → line_read l ≡ r → Safe ls → Safe (l ∷ ls)
+  safe_line : (r : Option Request) → line_read l ≡ r → Safe ls → Safe (l ∷ ls)
   unfolding line_decision decided may_ask
-  safe_line (Read r) e = go r.ask refl
+  safe_line (Some r) e = go r.ask refl
     where
       -- the state after it
-      by_asks : (a : Ask) → r.ask ≡ a → (answered closed l).session ≡ (replied_to closed (Read (request r.caller a))).session
-      by_asks a q = leaves (Read r) e ∙ ap (λ (a : Ask). (replied_to closed (Read (request r.caller a))).session) q
+      by_asks : (a : Ask) → r.ask ≡ a → (answered closed l).session ≡ (replied_to closed (Some (request r.caller a))).session
+      by_asks a q = leaves (Some r) e ∙ ap (λ (a : Ask). (replied_to closed (Some (request r.caller a))).session) q
 
       go : (a : Ask) → r.ask ≡ a → Safe ls → Safe (l ∷ ls)
       go (Open o) q =
           by_test (eqb r.caller dispatcher)
-          (λ right. safe_opening o (e ∙ ap (λ (a : Ask). Read (request r.caller a)) q ∙ ap (λ (n : ℕ). Read (request n (Open o))) (eqb-true r.caller 0 right)))
+          (λ right. safe_opening o (e ∙ ap (λ (a : Ask). Some (request r.caller a)) q ∙ ap (λ (n : ℕ). Some (request n (Open o))) (eqb-true r.caller 0 right)))
           (λ lacks. safe_skip (by_asks (Open o) q ∙ rw lacks))
       go (OnTable c) q = safe_skip (by_asks (OnTable c) q)
-  safe_line Unreadable e = safe_skip (leaves Unreadable e)
+  safe_line None e = safe_skip (leaves None e)
 
 -- Whatever lines a session is given: no opening among them was accepted, and the session is as at the start; or one was, what followed
 -- is a history on the table that it made, and demand 3 holds of that history.

@@ -1,6 +1,8 @@
 -- Document 01, "What is turned down" and "The session program", said a second time of a session: how an input is cut into lines, what a line is
 -- answered, and the state after it, by what stands in the line. Which lines can be read at all is said in wire/proofs/RoundTrip and Unique.
 -- Assumes nothing.
+use Rattle.std.specs.Prelude.{Option, Some, None}
+use Rattle.calls.specs.declared.Request.{Request}
 use Prim.Native.Nat.{ℕ}
 use mathlib.Core.Bool.{Bool, true, false, ◌||◌}
 use mathlib.Core.List.{List, [], ◌∷◌, ◌++◌, append_assoc, append-nil}
@@ -12,8 +14,6 @@ use Rattle.logic.proofs.Tests.{by_test}
 use Rattle.calls.specs.declared.Opening.{Opening}
 use Rattle.calls.specs.declared.Call.{Call}
 use Rattle.calls.specs.declared.Ask.TheVariants.{Open, OnTable}
-use Rattle.calls.specs.declared.RequestRead.{RequestRead}
-use Rattle.calls.specs.declared.RequestRead.TheVariants.{Read, Unreadable}
 use Rattle.calls.specs.Answers.{numbers, numbers_of}
 use Rattle.calls.specs.Requests.{request}
 use Rattle.rights.specs.Rights.{may_ask}
@@ -92,49 +92,49 @@ abbrev reply_of : Bool → Outcome → Reply
 reply_of b u = record { answer = numbers_of u.answer; session = session (b || eqb (numbers_of u.answer).number 0) u.table }
 
 module _ (l : List ℕ) (t : Table) where
-  answered_as : (s : Session) (r : RequestRead) → line_read l ≡ r → answered s l ≡ replied_to s r
+  answered_as : (s : Session) (r : Option Request) → line_read l ≡ r → answered s l ≡ replied_to s r
   answered_as s r e = ap (replied_to s) e
 
   -- 1 "line unreadable"
-  pub line_1 : (b : Bool) → line_read l ≡ Unreadable → answered (session b t) l ≡ refusal 1 (session b t)
+  pub line_1 : (b : Bool) → line_read l ≡ None → answered (session b t) l ≡ refusal 1 (session b t)
   unfolding line_decision
-  line_1 true e = answered_as (session true t) Unreadable e
-  line_1 false e = answered_as (session false t) Unreadable e
+  line_1 true e = answered_as (session true t) None e
+  line_1 false e = answered_as (session false t) None e
 
   -- 2 "call before an accepted opening", whoever calls
-  pub line_2 : (n : ℕ) (c : Call) → line_read l ≡ Read (request n (OnTable c)) → answered (session false t) l ≡ refusal 2 (session false t)
+  pub line_2 : (n : ℕ) (c : Call) → line_read l ≡ Some (request n (OnTable c)) → answered (session false t) l ≡ refusal 2 (session false t)
   unfolding line_decision
   line_2 n c e = answered_as (session false t) _ e ∙ rw (call_2 t n c)
 
   -- 2 "or an opening after one"
-  pub line_2_again : (n : ℕ) (o : Opening) → line_read l ≡ Read (request n (Open o)) → answered (session true t) l ≡ refusal 2 (session true t)
+  pub line_2_again : (n : ℕ) (o : Opening) → line_read l ≡ Some (request n (Open o)) → answered (session true t) l ≡ refusal 2 (session true t)
   unfolding line_decision
   line_2_again n o e = answered_as (session true t) _ e ∙ rw (open_2 t n o)
 
   -- 16 "caller without the right, directly after 1 and 2": an opening, and any other call
-  pub line_16_open : (n : ℕ) (o : Opening) → line_read l ≡ Read (request n (Open o)) → (Right n (Open o) → ⊥)
+  pub line_16_open : (n : ℕ) (o : Opening) → line_read l ≡ Some (request n (Open o)) → (Right n (Open o) → ⊥)
       → answered (session false t) l ≡ refusal 16 (session false t)
   unfolding line_decision
   line_16_open n o e lacks = answered_as (session false t) _ e ∙ ap (reply_of false) (open_16 n o lacks t)
 
-  pub line_16 : (n : ℕ) (c : Call) → line_read l ≡ Read (request n (OnTable c)) → (Right n (OnTable c) → ⊥)
+  pub line_16 : (n : ℕ) (c : Call) → line_read l ≡ Some (request n (OnTable c)) → (Right n (OnTable c) → ⊥)
       → answered (session true t) l ≡ refusal 16 (session true t)
   unfolding line_decision
   line_16 n c e lacks = answered_as (session true t) _ e ∙ ap (reply_of true) (call_16 n c lacks t)
 
   -- 3 "a setting out of range"
-  pub line_3 : (o : Opening) → line_read l ≡ Read (request 0 (Open o)) → (Offers o → ⊥) → answered (session false t) l ≡ refusal 3 (session false t)
+  pub line_3 : (o : Opening) → line_read l ≡ Some (request 0 (Open o)) → (Offers o → ⊥) → answered (session false t) l ≡ refusal 3 (session false t)
   unfolding line_decision decided decide_on may_ask
   line_3 o e out = answered_as (session false t) _ e ∙ (rw (open_3 o out))
 
   -- an accepted opening: from then on the session is open, with a table of these settings and no train
-  pub line_opens : (o : Opening) → line_read l ≡ Read (request 0 (Open o)) → Offers o
+  pub line_opens : (o : Opening) → line_read l ≡ Some (request 0 (Open o)) → Offers o
       → answered (session false t) l ≡ record { answer = numbers 0 0 0 0; session = session true (empty_table (settings_of o)) }
   unfolding line_decision decided decide_on may_ask
   line_opens o e offers = answered_as (session false t) _ e ∙ (rw (open_accepted o offers))
 
   -- after it a call by a caller with the right is answered as on its table, and leaves the table that it leaves there
-  pub line_called : (n : ℕ) (c : Call) → line_read l ≡ Read (request n (OnTable c)) → Right n (OnTable c)
+  pub line_called : (n : ℕ) (c : Call) → line_read l ≡ Some (request n (OnTable c)) → Right n (OnTable c)
       → answered (session true t) l ≡ record { answer = numbers_of (step t c).answer; session = session true (step t c).table }
   unfolding line_decision
   line_called n c e has = answered_as (session true t) _ e ∙ ap (reply_of true) (call_rightful n c has t)
@@ -147,11 +147,11 @@ module _ (l : List ℕ) (t : Table) where
   unfolding line_decision
   refusal_leaves b = go b (line_read l)
     where
-      go : (b : Bool) (r : RequestRead) → Leaves (session b t) (replied_to (session b t) r)
-      go true Unreadable refuses = refl
-      go false Unreadable refuses = refl
-      go true (Read r) refuses = let (zeros, stays) = refusal_keeps true t r refuses in λ z. record { answer = zeros z; session = session true (stays z) }
-      go false (Read r) refuses =
+      go : (b : Bool) (r : Option Request) → Leaves (session b t) (replied_to (session b t) r)
+      go true None refuses = refl
+      go false None refuses = refl
+      go true (Some r) refuses = let (zeros, stays) = refusal_keeps true t r refuses in λ z. record { answer = zeros z; session = session true (stays z) }
+      go false (Some r) refuses =
           let (zeros, stays) = refusal_keeps false t r refuses in
           let not_opened = ne_eqb _ 0 refuses in
           λ z. record { answer = zeros z; session = session (not_opened z) (stays z) }

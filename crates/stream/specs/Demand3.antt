@@ -1,11 +1,9 @@
 -- Demand 3 about a session: the requests that its lines make on the table of the accepted opening, with the answers that they get. It speaks
 -- of what is read and written: the events are the requests as they were read and the answers as they were given.
-use Rattle.std.specs.Prelude.{ℕ, ◌≡◌, true, List, [], ◌∷◌, ◌++◌, map}
+use Rattle.std.specs.Prelude.{ℕ, ◌≡◌, true, List, [], ◌∷◌, ◌++◌, map, Option, Some, None, Ok}
+use Rattle.calls.specs.declared.Request.{Request}
 use Rattle.calls.specs.declared.Opening.{Opening}
 use Rattle.calls.specs.declared.Ask.TheVariants.{Open}
-use Rattle.calls.specs.declared.RequestRead.{RequestRead}
-use Rattle.calls.specs.declared.RequestRead.TheVariants.{Read, Unreadable}
-use Rattle.calls.specs.declared.Answer.TheVariants.{Accepted}
 use Rattle.calls.specs.declared.Values.TheVariants.{Zeros}
 use Rattle.calls.specs.Requests.{request}
 use Rattle.rights.specs.Rights.{dispatcher}
@@ -20,9 +18,9 @@ use Rattle.stream.specs.Session.{session, closed, answered}
 use Rattle.stream.specs.Input.{after}
 
 -- what a line does: it makes the request that is read from it; an unreadable line does nothing
-abbrev pub deed_in : RequestRead → List Deed
-deed_in (Read r) = made r ∷ []
-deed_in Unreadable = []
+abbrev pub deed_in : Option Request → List Deed
+deed_in (Some r) = made r ∷ []
+deed_in None = []
 
 unfoldable pub deeds_in : List (List ℕ) → List Deed
 deeds_in [] = []
@@ -44,8 +42,8 @@ pub record Opened (ls : List (List ℕ)) : Type 0 where
   pub table : Table
   pub all : ls ≡ earlier ++ (line ∷ since)
   pub not_yet : after closed earlier ≡ closed
-  pub opening : line_read line ≡ Read (request dispatcher (Open given))
-  pub accepted : open_step given ≡ outcome (Accepted Zeros) table
+  pub opening : line_read line ≡ Some (request dispatcher (Open given))
+  pub accepted : open_step given ≡ outcome (Ok Zeros) table
   pub opens : (answered closed line).session ≡ session true table
   pub now : after closed ls ≡ session true (History.after table (deeds_in since))
   pub events : events_in (session true table) since ≡ history table (deeds_in since)

@@ -1,7 +1,6 @@
 -- Document 01, "What is turned down" and "The session program": one line of a session, its answer and the state after it.
-use Rattle.std.specs.Prelude.{Bool, false, ◌||◌, ℕ, List, eqb}
-use Rattle.calls.specs.declared.RequestRead.{RequestRead}
-use Rattle.calls.specs.declared.RequestRead.TheVariants.{Read, Unreadable}
+use Rattle.std.specs.Prelude.{Bool, false, ◌||◌, ℕ, List, eqb, Option, Some, None}
+use Rattle.calls.specs.declared.Request.{Request}
 use Rattle.calls.specs.declared.Refusal.TheVariants.{BadLine}
 use Rattle.calls.specs.Answers.{numbers_of}
 use Rattle.table.specs.declared.Table.{Table}
@@ -21,9 +20,9 @@ abbrev pub closed : Session
 closed = session false no_table
 
 -- what is decided of a line: 1 line unreadable, then what is decided of its request
-unfoldable pub line_decision : Session → RequestRead → Decision
-line_decision s (Read r) = decided s.opened s.table r
-line_decision s Unreadable = refused BadLine
+unfoldable pub line_decision : Session → Option Request → Decision
+line_decision s (Some r) = decided s.opened s.table r
+line_decision s None = refused BadLine
 
 -- Answer 0 is acceptance: from then on the session is open. A refusal changes nothing.
 abbrev pub replied : Session → Decision → Reply

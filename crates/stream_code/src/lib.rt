@@ -6,7 +6,7 @@ ghost use Rattle.wire.specs.Format.{line_read};
 ghost use Rattle.stream.specs.Session.{session, closed, line_decision, answered};
 ghost use Rattle.stream.specs.Input.{begun, FeedPromise, FinishPromise};
 
-use calls::{Answer, Refusal, RequestRead};
+use calls::{Answer, Refusal};
 use line::Decision;
 use stream::{Fed, Finished, KEPT_WIDTH, Reply, Session, Stream};
 use stream_line_code::OUTPUT_WIDTH;
@@ -20,8 +20,8 @@ fn decide_line(opened: bool, t: Table, line: &[u8]) -> Decision
 {
     let read = wire_code::read_line(line);
     match read {
-        RequestRead::Read(r) => line_decide_code::decide(opened, t, r),
-        RequestRead::Unreadable => line_decide_code::refuse(Refusal::BadLine),
+        Some(r) => line_decide_code::decide(opened, t, r),
+        None => line_decide_code::refuse(Refusal::BadLine),
     }
 }
 
@@ -91,11 +91,7 @@ pub fn finish(x: Stream, out: &mut [u8]) -> Finished
             count: 0,
         };
     }
-    stream_line_code::put_line(
-        out,
-        0,
-        calls_code::numbers_of(Answer::Refused(Refusal::BadLine)),
-    );
+    stream_line_code::put_line(out, 0, calls_code::numbers_of(Err(Refusal::BadLine)));
     Finished {
         taken: true,
         count: OUTPUT_WIDTH,

@@ -15,7 +15,7 @@ ghost use Rattle.stream.specs.Input.{output_line, kept_width, kept, output_width
 ghost use Rattle.stream_line_code.specs.Feeds.{NoFeed, LineEnd};
 ghost use Rattle.stream_line_code.specs.Named.{id_read};
 
-use calls::{Answer, Numbers, Refusal, RequestRead};
+use calls::{Answer, Numbers, Refusal, Request};
 use line::Decision;
 use stream::KEPT_WIDTH;
 use table::Table;
@@ -105,7 +105,7 @@ pub fn push_all(bytes: &mut [u8], count: usize, part: &[u8]) -> usize
 
 // What a line asks, given its bytes in this piece. A line that lies whole in its piece is read there; the rest of a line that has begun
 // before is put to its first bytes.
-pub fn read_on(bytes: &mut [u8], count: usize, part: &[u8]) -> RequestRead
+pub fn read_on(bytes: &mut [u8], count: usize, part: &[u8]) -> Option<Request>
     requires { (length bytes.old ≡ kept_width) × (count ≤ kept_width) }
     ensures { result ≡ line_read (take count bytes.old ++ part.now) }
 {
@@ -119,25 +119,25 @@ pub fn read_on(bytes: &mut [u8], count: usize, part: &[u8]) -> RequestRead
 // ---- what is decided of it, where the search for its train is done apart
 
 // The id that a line names. A line that is not readable names none.
-pub fn id_read(q: RequestRead) -> u64
+pub fn id_read(q: Option<Request>) -> u64
     ensures { result ≡ id_read q }
 {
     match q {
-        RequestRead::Read(r) => {
+        Some(r) => {
             let ask = r.ask;
             line_decide_code::id_named(ask)
         }
-        RequestRead::Unreadable => 0,
+        None => 0,
     }
 }
 
 // How many places are searched for it, where n trains are on the line: none for a line that is not readable.
-pub fn places_sought(q: RequestRead, n: usize) -> usize
-    ensures { (result ≤ min n places) × ((x : Request) → q ≡ RequestRead.Read x → result ≡ min n places) }
+pub fn places_sought(q: Option<Request>, n: usize) -> usize
+    ensures { (result ≤ min n places) × ((x : Request) → q ≡ Some x → result ≡ min n places) }
 {
     match q {
-        RequestRead::Read(_) => table_code::places_taken(n),
-        RequestRead::Unreadable => 0,
+        Some(_) => table_code::places_taken(n),
+        None => 0,
     }
 }
 
@@ -146,22 +146,22 @@ pub fn places_sought(q: RequestRead, n: usize) -> usize
 pub fn decide_read(
     opened: bool,
     t: Table,
-    q: RequestRead,
+    q: Option<Request>,
     i: usize,
     ahead: Train,
     there: Train,
 ) -> Decision
-    requires { (r : Request) → q ≡ RequestRead.Read r → Ended t (id_named r.ask) i ahead there }
+    requires { (r : Request) → q ≡ Some r → Ended t (id_named r.ask) i ahead there }
     ensures { result ≡ line_decision (session opened t) q }
 {
     match q {
-        RequestRead::Read(r) => {
+        Some(r) => {
             let ask = r.ask;
             let id = line_decide_code::id_named(ask);
             let f = table_code::found_at(t, id, i, ahead, there);
             line_decide_code::decide_found(opened, t, f, r)
         }
-        RequestRead::Unreadable => line_decide_code::refuse(Refusal::BadLine),
+        None => line_decide_code::refuse(Refusal::BadLine),
     }
 }
 

@@ -11,7 +11,6 @@ use lib.ListN.{length, get_or, set, length-take}
 use lib.Seq.{get_or-take, get_or-set_same, set-get_or, take-set-lt}
 use Rattle.logic.proofs.Tests.{by_test}
 use Rattle.train.specs.declared.Train.{Train}
-use Rattle.train.specs.declared.Limit.{Limit}
 use Rattle.table.specs.declared.Table.{Table}
 use Rattle.table.specs.declared.Change.TheVariants.{Put}
 use Rattle.table.specs.Table.{blank_train, on_line, place_in, place_of, train_at, limit_at, changed}
@@ -54,7 +53,7 @@ not_found (Some i) e = let z : ◌≡◌ {A = ℕ} 0 1 = cc in absurd (omega ari
 not_found None e = refl
 
 -- place, limit and record of a train that was found
-pub record FoundAt (t : Table) (o : Option ℕ) (i : ℕ) (limit : Limit) (x : Train) : Type 0 where
+pub record FoundAt (t : Table) (o : Option ℕ) (i : ℕ) (limit : Option ℕ) (x : Train) : Type 0 where
   pub place : o ≡ Some i
   pub limited : limit ≡ limit_at t i
   pub here : x ≡ train_at t i

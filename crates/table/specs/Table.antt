@@ -3,7 +3,6 @@ use Rattle.std.specs.Prelude.{ℕ, zero, suc, ◌+◌, ◌-◌, ◌<◌, cond, L
 use Rattle.motion.specs.declared.Order.TheVariants.{Drive}
 use Rattle.train.specs.declared.Settings.{Settings}
 use Rattle.train.specs.declared.Train.{Train}
-use Rattle.train.specs.declared.Limit.{Limit}
 use Rattle.train.specs.Ranges.{settings_of}
 use Rattle.train.specs.Record.{train_of, fresh_authority, fresh_marks}
 use Rattle.train.specs.Track.{limit_behind}
@@ -44,7 +43,7 @@ ahead_of t zero = None
 ahead_of t (suc i) = Some (train_at t i)
 
 -- the limit of the train at place i
-abbrev pub limit_at : Table → ℕ → Limit
+abbrev pub limit_at : Table → ℕ → Option ℕ
 limit_at t i = limit_behind t.settings (ahead_of t i)
 
 -- the table after a change

@@ -12,7 +12,6 @@ use lib.ListN.{length, take, drop, get_or, set, length-append, length-take, leng
 use lib.Seq.{drop-cons, get_or-take, get_or-drop, get_or-append-add, take-nil, take-suc, take_all, set_at, append_snoc, length-take-le}
 use borrow.Author.Tests.{eq-eqb, ne_eqb}
 use Rattle.train.specs.declared.Train.{Train}
-use Rattle.train.specs.declared.Limit.{Limit}
 use Rattle.table.specs.declared.Table.{Table}
 use Rattle.table_code.specs.declared.Found.TheVariants.{At, Nothing}
 use Rattle.table.specs.declared.Change.TheVariants.{DropFirst}
@@ -83,11 +82,11 @@ module _ (t : Table) (id i : ℕ) (a x : Train) (size : length t.trains ≡ 32) 
 
 -- ---- what the search gives, taken apart
 
-pub none_found : (t : Table) (o : Option ℕ) (limit : Limit) → found t o ≡ Nothing limit → (o ≡ None) × (limit ≡ limit_at t (min t.count 32))
+pub none_found : (t : Table) (o : Option ℕ) (limit : Option ℕ) → found t o ≡ Nothing limit → (o ≡ None) × (limit ≡ limit_at t (min t.count 32))
 none_found t None limit e = let behind : limit_at t (min t.count 32) ≡ limit = cc in (refl, sym behind)
 none_found t (Some i) limit e = let z : ◌≡◌ {A = ℕ} 0 1 = cc in absurd (omega arith)
 
-pub one_found : (t : Table) (o : Option ℕ) (i : ℕ) (limit : Limit) (x : Train) → found t o ≡ At i limit x → FoundAt t o i limit x
+pub one_found : (t : Table) (o : Option ℕ) (i : ℕ) (limit : Option ℕ) (x : Train) → found t o ≡ At i limit x → FoundAt t o i limit x
 one_found t None i limit x e = let z : ◌≡◌ {A = ℕ} 0 1 = cc in absurd (omega arith)
 one_found t (Some j) i limit x e =
     let same : j ≡ i = cc in

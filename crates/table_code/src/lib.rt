@@ -92,7 +92,7 @@ fn limit_at(t: Table, i: usize, ahead: Train) -> Limit
 {
     let s = t.settings;
     if i == 0 {
-        return Limit::Place(s.end);
+        return Some(s.end);
     }
     train_code::limit_behind(s, ahead)
 }

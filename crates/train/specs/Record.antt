@@ -1,7 +1,6 @@
 -- Document 01, "Orders" and "Authorities", and document 02, (ii) and (vi): a train record, in parts. A part that a call sets has a definition for its value on entering.
-use Rattle.std.specs.Prelude.{ℕ, Bool, false, not, eqb}
+use Rattle.std.specs.Prelude.{ℕ, Bool, false, not, eqb, Option}
 use Rattle.brake.specs.declared.Figures.{Figures}
-use Rattle.brake.specs.declared.FiguresFound.{FiguresFound}
 use Rattle.brake.specs.Consist.{figures_of}
 use Rattle.motion.specs.declared.Motion.{Motion}
 use Rattle.motion.specs.declared.Order.{Order}
@@ -16,7 +15,7 @@ abbrev pub train_of : ℕ → ℕ → Figures → Motion → Order → Authority
 train_of id l k m o a ms = record { id = id; length = l; figures = k; motion = m; order = o; authority = a; marks = ms }
 
 -- the brake figures of an entering train, or none (answer 4). They may come to depend on the line.
-abbrev pub figures_for : Settings → Entry → FiguresFound
+abbrev pub figures_for : Settings → Entry → Option Figures
 figures_for σ e = figures_of e.load e.length
 
 -- an authority up to the end e, in a stay with the starting number s: n is the last accepted number, and l its length; no call back is pending

@@ -44,9 +44,5 @@ pub struct Train {
     pub marks: Marks,
 }
 
-// A train's limit: a place, or nowhere, where not even 0 is within it.
-#[derive(Clone, Copy)]
-pub enum Limit {
-    Place(u64),
-    Nowhere,
-}
+// A train's limit: a place, or none, where not even 0 is within it.
+pub type Limit = Option<u64>;

@@ -12,7 +12,7 @@ ghost use Rattle.train.specs.Track.{steps_of, limit_behind, within_limit};
 ghost use Rattle.train.specs.Report.{worst_of, reach_of, allowed, motion_after, moves, must_brake, order_after, is_penalty, settled, ordered, reported, computable, report_allowed};
 ghost use Rattle.train_code.specs.Report.{with_reach};
 
-use brake::{Figures, FiguresFound};
+use brake::Figures;
 use calls::{Entry, Opening, Reading};
 use motion::{Maxima, Motion, Order};
 use motion_code::Offer;
@@ -70,13 +70,13 @@ pub fn limit_behind(s: Settings, a: Train) -> Limit
     let head = m.head;
     let length = steps_of(a.length);
     if head < length {
-        return Limit::Nowhere;
+        return None;
     }
     let rear = head - length;
     if rear < safety {
-        return Limit::Nowhere;
+        return None;
     }
-    Limit::Place(rear - safety)
+    Some(rear - safety)
 }
 
 // Whether the place end + more is within a limit; then the sum fits.
@@ -84,20 +84,20 @@ pub fn within(limit: Limit, end: u64, more: u64) -> bool
     ensures { (result ≡ within_limit limit (end + more)) × (result ≡ true → end + more < 2 ^ 64) }
 {
     match limit {
-        Limit::Place(place) => {
+        Some(place) => {
             if place < end {
                 return false;
             }
             more <= place - end
         }
-        Limit::Nowhere => false,
+        None => false,
     }
 }
 
 // ---- a record, by its parts
 
 // The brake figures that a train enters with, or none.
-pub fn figures_for(s: Settings, e: Entry) -> FiguresFound
+pub fn figures_for(s: Settings, e: Entry) -> Option<Figures>
     ensures { result ≡ figures_for s e }
 {
     brake::figures_of(e.load, e.length)

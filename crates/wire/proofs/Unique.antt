@@ -11,7 +11,6 @@ use lib.ListN.{length, take, drop, length-drop, take-append-drop}
 use lib.Seq.{length-take-le}
 use borrow.Author.Tests.{eqb-true}
 use Rattle.logic.proofs.Tests.{by_test}
-use Rattle.calls.specs.declared.RequestRead.TheVariants.{Unreadable}
 use Rattle.calls.specs.Requests.{request_of}
 use Rattle.wire.specs.declared.Scan.{Scan}
 use Rattle.wire.specs.declared.Scan.TheVariants.{Blank, Digits, Bad}
@@ -128,14 +127,14 @@ pub record Typed (line : List ℕ) : Type 0 where
   pub reads : line_read line ≡ request_of numbers
 
 typed_by : (line : List ℕ) (r : Option (List ℕ)) → length line ≡ call_width → numbers_in call_columns line ≡ r → line_read line ≡ request_by r
-    → (line_read line ≡ Unreadable → ⊥) → Typed line
+    → (line_read line ≡ None → ⊥) → Typed line
 typed_by line None h e s k = absurd (k s)
 typed_by line (Some ns) h e s k =
     let t = numbers_text call_columns line ns (sym h) e in
     record { long = h; numbers = ns; fits = t.1; text = t.0; reads = s }
 
 -- a line that is read is the text of its own numbers, so that nothing else is taken for a request
-pub line_typed : (line : List ℕ) → (line_read line ≡ Unreadable → ⊥) → Typed line
+pub line_typed : (line : List ℕ) → (line_read line ≡ None → ⊥) → Typed line
 unfolding line_read
 line_typed line k =
     by_test (eqb (length line) call_width)

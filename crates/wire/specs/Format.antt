@@ -1,10 +1,9 @@
 -- Document 01, "The session program", and document 02, (iii): the columns of a line, read and written. Bytes are ASCII: 32 space, 48 to 57
 -- the digits.
 use Rattle.std.specs.Prelude.{ℕ, zero, suc, ◌+◌, ◌-◌, ◌*◌, ◌/◌, ◌%◌, Bool, cond, ◌&&◌, List, [], ◌∷◌, ◌++◌, eqb, leb, length, take, drop, replicate, Option, None, Some}
+use Rattle.calls.specs.declared.Request.{Request}
 use Rattle.std.proofs.Math.Seq.{paste}
 use Rattle.calls.specs.declared.Numbers.{Numbers}
-use Rattle.calls.specs.declared.RequestRead.{RequestRead}
-use Rattle.calls.specs.declared.RequestRead.TheVariants.{Unreadable}
 use Rattle.calls.specs.Requests.{request_of}
 use Rattle.wire.specs.declared.Scan.{Scan}
 use Rattle.wire.specs.declared.Scan.TheVariants.{Blank, Digits, Bad}
@@ -77,11 +76,11 @@ abbrev pub row_in : List ℕ → Option (List ℕ)
 row_in line = cond (eqb (length line) call_width) (numbers_in call_columns line) None
 
 -- and what they ask
-abbrev pub request_by : Option (List ℕ) → RequestRead
-request_by None = Unreadable
+abbrev pub request_by : Option (List ℕ) → Option Request
+request_by None = None
 request_by (Some ns) = request_of ns
 
-unfoldable pub line_read : List ℕ → RequestRead
+unfoldable pub line_read : List ℕ → Option Request
 line_read line = request_by (row_in line)
 
 -- ---- writing

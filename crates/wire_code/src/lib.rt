@@ -7,7 +7,7 @@ ghost use Rattle.wire.specs.Format.{digit as digit_after, column as column_after
 ghost use Rattle.wire_code.specs.Rows.{row_numbers};
 ghost use Rattle.wire_code.specs.Columns.{Blanked};
 
-use calls::{Numbers, ROW, RequestRead};
+use calls::{Numbers, ROW, Request};
 use wire::{CALL_COLUMNS, CALL_WIDTH, Field, Scan};
 
 // The numbers of a line, its code first and its caller last. Where a field is none the line is not readable, and the numbers mean nothing. (An enum may
@@ -129,13 +129,13 @@ pub fn read_row(line: &[u8]) -> Row
 }
 
 // What an input line asks, given without its line feed.
-pub fn read_line(line: &[u8]) -> RequestRead
+pub fn read_line(line: &[u8]) -> Option<Request>
     ensures { result ≡ line_read line.now }
 {
     let row = read_row(line);
     let n = row.numbers;
     if !row.readable {
-        return RequestRead::Unreadable;
+        return None;
     }
     calls_code::request_of(n)
 }

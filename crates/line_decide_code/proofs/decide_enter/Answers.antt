@@ -12,7 +12,7 @@ returns-in_default c = c.refuse-in_default.ensures ∙ sym (enter_unfit _ _ (sym
 
 pub enter_with-requires : goal.enter_with-requires
 enter_with-requires c =
-    ((sym (rw (c.both.ensures, c.start_in_range.ensures, c.id_in_range.ensures))) ∙ c.if-not-both.false, given_length _ _ _ (sym c.figures_for.ensures ∙ c.in-Given.is), c.requires)
+    ((sym (rw (c.both.ensures, c.start_in_range.ensures, c.id_in_range.ensures))) ∙ c.if-not-both.false, given_length _ _ _ (sym c.figures_for.ensures ∙ c.in-Some.is), c.requires)
 
 pub returns : goal.returns
-returns c = c.enter_with.ensures ∙ sym (enter_fit _ _ _ (sym c.figures_for.ensures ∙ c.in-Given.is))
+returns c = c.enter_with.ensures ∙ sym (enter_fit _ _ _ (sym c.figures_for.ensures ∙ c.in-Some.is))

@@ -3,12 +3,12 @@ use mathlib.Core.Path.{sym, ap, ◌∙◌}
 use Rattle.stream.specs.Session.{line_decision}
 use Rattle.stream_code.proofs.decide_line.Goals as goal
 
-pub returns-in-Read : goal.returns-in-Read
+pub returns-in-Some : goal.returns-in-Some
 unfolding line_decision
-returns-in-Read c =
-    c.decide.ensures ∙ ap (line_decision _) (sym c.in-Read.is ∙ c.read_line-read.ensures)
+returns-in-Some c =
+    c.decide.ensures ∙ ap (line_decision _) (sym c.in-Some.is ∙ c.read_line-read.ensures)
 
-pub returns-in-Unreadable : goal.returns-in-Unreadable
+pub returns-in-None : goal.returns-in-None
 unfolding line_decision
-returns-in-Unreadable c =
-    c.refuse.ensures ∙ ap (line_decision _) (sym c.in-Unreadable.is ∙ c.read_line-read.ensures)
+returns-in-None c =
+    c.refuse.ensures ∙ ap (line_decision _) (sym c.in-None.is ∙ c.read_line-read.ensures)

@@ -1,4 +1,6 @@
 -- `stream_piece_code::feed_all` meets its contract. What a turn of its loop does is a law in Feeding; the search and the moving up are laws of
+use Rattle.std.specs.Prelude.{Option}
+use Rattle.calls.specs.declared.Request.{Request}
 use Prim.Native.Nat.{ℕ, min, ◌+◌, ◌*◌, ◌≤◌, ◌<◌}
 use native.Mathlib.Omega.{arith}
 use mathlib.Core.Path.{◌≡◌, refl, sym, ap, subst, ◌∙◌}
@@ -18,7 +20,6 @@ use Rattle.stream.proofs.Bytes.{keep_first}
 use Rattle.stream.proofs.Lines.{standing, line_fits}
 use Rattle.stream_line_code.specs.Named.{id_read}
 use Rattle.stream_piece_code.proofs.Feeding.{line_from, Feeding, line_room, line_fed, piece_fed}
-use Rattle.calls.specs.declared.RequestRead.{RequestRead}
 use Rattle.calls.specs.Answers.{numbers_of}
 use Rattle.line.specs.declared.Decision.{Decision}
 use Rattle.stream.specs.declared.Session.{Session}
@@ -34,7 +35,7 @@ use Rattle.stream_piece_code.proofs.feed_all.Goals as goal
 -- The line is answered, and u is the table with its change.
 line_answered : {piece before out bytes : List ℕ} {first : Standing} {s : Session} {count at i e : ℕ} → output_width * length piece ≤ length before
     → Feeding piece before first out s bytes count at i e → e < length piece
-    → {q : RequestRead} → q ≡ line_read (line_from bytes count piece i e)
+    → {q : Option Request} → q ≡ line_read (line_from bytes count piece i e)
     → {d : Decision} → d ≡ line_decision s q
     → {now : List ℕ} → now ≡ paste out at (output_line (numbers_of d.answer)) output_width
     → {o : Bool} → o ≡ (s.opened || eqb (numbers_of d.answer).number 0)
@@ -46,7 +47,7 @@ line_answered {s = s} all v more read decided written told u made trains long en
     (ap (λ (o : Bool). session o u) told ∙ ap (session _) made) trains _ long _ end
 
 -- The table has the place that its change needs.
-change_fits : (opened : Bool) (t : Table) (q : RequestRead) {d : Decision} {c : Change} → length t.trains ≡ places
+change_fits : (opened : Bool) (t : Table) (q : Option Request) {d : Decision} {c : Change} → length t.trains ≡ places
     → d ≡ line_decision (session opened t) q → d.change ≡ c → Fits t c
 change_fits opened t q {d} all decided is = subst (Fits t) is (line_fits (session opened t) all q d decided)
 
