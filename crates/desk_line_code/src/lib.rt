@@ -69,16 +69,15 @@ fn make(s: Session, r: Request) -> DeskReply
     ensures { result ≡ record { shown = shown_at s (DeskRead.Made r); session = left_at s (DeskRead.Made r) } }
 {
     let opened = s.opened;
-    let table = s.table;
-    let d = line_decide_code::decide(opened, table, r);
-    let answer = d.answer;
-    let change = d.change;
-    let n = calls_code::numbers_of(answer);
+    let mut table = s.table;
+    let d = line_decide_code::decide(opened, &table, r);
+    table_code::carry_out(&mut table, d.change);
+    let n = calls_code::numbers_of(d.answer);
     DeskReply {
         shown: line_code::show(d),
         session: Session {
             opened: logic::either(opened, n.number == 0),
-            table: table_code::carry_out(table, change),
+            table,
         },
     }
 }

@@ -13,15 +13,14 @@ use table::{Change, Table};
 use train::Train;
 
 // Any request, before an accepted opening or after one.
-pub fn apply(opened: bool, t: Table, r: Request) -> Outcome
+pub fn apply(opened: bool, mut t: Table, r: Request) -> Outcome
     ensures { result ≡ requested opened t r }
 {
-    let d = line_decide_code::decide(opened, t, r);
-    let answer = d.answer;
-    let change = d.change;
+    let d = line_decide_code::decide(opened, &t, r);
+    table_code::carry_out(&mut t, d.change);
     Outcome {
-        answer,
-        table: table_code::carry_out(t, change),
+        answer: d.answer,
+        table: t,
     }
 }
 
@@ -89,11 +88,8 @@ fn shown_by(c: Change) -> Train
     ensures { result ≡ shown_by c }
 {
     match c {
-        Change::Stay => table_code::blank_train(),
-        Change::Put(_, x) => x,
-        Change::Add(x) => x,
-        Change::DropFirst => table_code::blank_train(),
-        Change::Anew(_) => table_code::blank_train(),
+        Change::Put(_, x) | Change::Add(x) => x,
+        Change::Stay | Change::DropFirst | Change::Anew(_) => table_code::blank_train(),
     }
 }
 
@@ -101,11 +97,9 @@ fn shown_by(c: Change) -> Train
 pub fn show(d: Decision) -> Shown
     ensures { result ≡ shown d }
 {
-    let answer = d.answer;
-    let change = d.change;
     Shown {
-        answer,
-        train: shown_by(change),
+        answer: d.answer,
+        train: shown_by(d.change),
     }
 }
 
@@ -113,16 +107,12 @@ pub fn show(d: Decision) -> Shown
 pub fn needs_opening(a: Ask) -> bool
     ensures { result ≡ needs_opening a }
 {
-    match a {
-        Ask::Open(_) => false,
-        Ask::OnTable(_) => true,
-    }
+    matches!(a, Ask::OnTable(_))
 }
 
 // What any request would come to on a copy of the table. No table is copied, and none comes back.
 pub fn preview(t: Table, r: Request) -> Shown
     ensures { result ≡ previewed t r }
 {
-    let ask = r.ask;
-    show(line_decide_code::decide(needs_opening(ask), t, r))
+    show(line_decide_code::decide(needs_opening(r.ask), &t, r))
 }

@@ -1,20 +1,14 @@
-// Decides a request on the table of trains: document 01, "Authorities" and "What is turned down"; document 02, (iii). The table stays as it
-// is: what changes in it is part of the decision. The search for the train that a request names comes first. What is decided after it reads
-// only settings and count of the table, at fixed places; the rest of it is for the contracts, and the compiler copies none of it.
+// Decides a request on the table of trains: document 01, "Authorities" and "What is turned down"; document 02, (iii). The table is lent, and
+// stays as it is: what changes in it is part of the decision. Right and turn are judged before the table is searched.
 #![tactic(auto)]
 
-ghost use Rattle.std.specs.Prelude.{◌≡◌, true, ◌&&◌, ◌≤◌};
-ghost use Rattle.ranges.specs.Ranges.{greatest_length, id_in_range, start_in_range};
-ghost use Rattle.line.specs.Decide.{refused, accepted, open_decision, enter_decision, decide_on, out_of_turn, decided};
+ghost use Rattle.std.specs.Prelude.{◌≡◌};
+ghost use Rattle.line.specs.Decide.{refused, accepted, open_decision, decide_on, out_of_turn, decided};
 ghost use Rattle.line.specs.Step.{no_table};
-ghost use Rattle.line_decide_code.specs.Named.{id_named, found_for};
 
-use acts::Verdict;
-use brake::Figures;
-use calls::{Act, Answer, Ask, Call, Entry, Opening, Refusal, Request, Values};
+use calls::{Act, Ask, Call, Entry, Opening, Refusal, Request, Values};
 use line::Decision;
-use table::{Change, Table};
-use table_code::Found;
+use table::{Change, PLACES, Table};
 
 // A refusal leaves the whole table.
 pub fn refuse(r: Refusal) -> Decision
@@ -36,6 +30,7 @@ fn accept(v: Values, c: Change) -> Decision
 }
 
 // Open: a new table with no train. A table already there is another one.
+#[tactic(auto, unfolding(line::specs::Decide::open_decision, calls::specs::Checks::first_of))]
 fn decide_open(o: Opening) -> Decision
     ensures { result ≡ open_decision o }
 {
@@ -46,94 +41,69 @@ fn decide_open(o: Opening) -> Decision
 }
 
 // Enter: behind the last train, standing.
-fn decide_enter(t: Table, f: Found, e: Entry) -> Decision
-    requires { f ≡ found_for t (Ask.OnTable (Call.Enter e)) }
-    ensures { result ≡ decide_on t (Ask.OnTable (Call.Enter e)) }
+#[tactic(auto, using(brake::proofs::Consist::given_length), unfolding(line::specs::Decide::decide_on, line::specs::Decide::enter_decision, calls::specs::Checks::first_of))]
+fn decide_enter(t: &Table, e: Entry) -> Decision
+    ensures { result ≡ decide_on t.now (Ask.OnTable (Call.Enter e)) }
 {
-    if !logic::both(ranges::id_in_range(e.id), ranges::start_in_range(e.start)) {
+    if !(ranges::id_in_range(e.id) && ranges::start_in_range(e.start)) {
         return refuse(Refusal::BadEntry);
     }
-    let s = t.settings;
-    let Some(k) = train_code::figures_for(s, e) else {
+    let Some(k) = train_code::figures_for(t.settings, e) else {
         return refuse(Refusal::BadEntry);
     };
-    enter_with(t, f, e, k)
-}
-
-// Enter with an id, a starting number and a consist in range.
-fn enter_with(t: Table, f: Found, e: Entry, k: Figures) -> Decision
-    requires { ((id_in_range e.id && start_in_range e.start) ≡ true) × (e.length ≤ greatest_length) × (f ≡ found_for t (Ask.OnTable (Call.Enter e))) }
-    ensures { result ≡ enter_decision t e (Some k) }
-{
-    let n = t.count;
-    let head = e.head;
-    match f {
-        Found::At(_, _, _) => refuse(Refusal::OnLine),
-        Found::Nothing(limit) => {
-            if table::PLACES <= n {
-                return refuse(Refusal::LineFull);
-            }
-            if head < train_code::steps_of(e.length as u16) {
-                return refuse(Refusal::BadHead);
-            }
-            if !train_code::within(limit, head, 0) {
-                return refuse(Refusal::BadHead);
-            }
-            accept(
-                Values::Entered(k.full, k.growth, head),
-                Change::Add(train_code::new_train(e, k)),
-            )
-        }
+    if table_code::place_of(t, e.id).is_some() {
+        return refuse(Refusal::OnLine);
     }
+    if PLACES <= t.count {
+        return refuse(Refusal::LineFull);
+    }
+    let limit = table_code::limit_at(t, t.count);
+    if e.head < train_code::steps_of(e.length as u16) || !train_code::within(limit, e.head, 0) {
+        return refuse(Refusal::BadHead);
+    }
+    accept(
+        Values::Entered(k.full, k.growth, e.head),
+        Change::Add(train_code::new_train(e, k)),
+    )
 }
 
 // An act of the train with this id.
-fn decide_own(t: Table, f: Found, id: u64, a: Act) -> Decision
-    requires { f ≡ found_for t (Ask.OnTable (Call.Own id a)) }
-    ensures { result ≡ decide_on t (Ask.OnTable (Call.Own id a)) }
+#[tactic(auto, unfolding(line::specs::Decide::decide_on, line::specs::Decide::act_decision, calls::specs::Checks::first_of))]
+fn decide_own(t: &Table, id: u64, a: Act) -> Decision
+    ensures { result ≡ decide_on t.now (Ask.OnTable (Call.Own id a)) }
 {
-    let Found::At(i, limit, x) = f else {
+    let Some(i) = table_code::place_of(t, id) else {
         return refuse(Refusal::NoTrain);
     };
-    let s = t.settings;
-    match acts_code::decide(s, limit, x, a) {
+    match acts_code::decide(t.settings, table_code::limit_at(t, i), t.trains[i], a) {
         Err(r) => refuse(r),
         Ok((v, y)) => accept(v, Change::Put(i, y)),
     }
 }
 
 // Take off: the first train, standing under brake. The yard's word that its track is clear is taken.
-fn decide_take_off(t: Table, f: Found, id: u64) -> Decision
-    requires { f ≡ found_for t (Ask.OnTable (Call.TakeOff id)) }
-    ensures { result ≡ decide_on t (Ask.OnTable (Call.TakeOff id)) }
+#[tactic(auto, unfolding(line::specs::Decide::decide_on, line::specs::Decide::take_off_decision, calls::specs::Checks::first_of))]
+fn decide_take_off(t: &Table, id: u64) -> Decision
+    ensures { result ≡ decide_on t.now (Ask.OnTable (Call.TakeOff id)) }
 {
-    let Found::At(i, _, x) = f else {
+    let Some(i) = table_code::place_of(t, id) else {
         return refuse(Refusal::NoTrain);
     };
-    if !acts_code::may_leave(i, x) {
+    if !acts_code::may_leave(i, t.trains[i]) {
         return refuse(Refusal::NotLeaving);
     }
     accept(Values::Zeros, Change::DropFirst)
 }
 
-fn decide_call(t: Table, f: Found, c: Call) -> Decision
-    requires { f ≡ found_for t (Ask.OnTable c) }
-    ensures { result ≡ decide_on t (Ask.OnTable c) }
-{
-    match c {
-        Call::Enter(e) => decide_enter(t, f, e),
-        Call::Own(id, a) => decide_own(t, f, id, a),
-        Call::TakeOff(id) => decide_take_off(t, f, id),
-    }
-}
-
-fn decide_ask(t: Table, f: Found, a: Ask) -> Decision
-    requires { f ≡ found_for t a }
-    ensures { result ≡ decide_on t a }
+#[tactic(auto, unfolding(line::specs::Decide::decide_on))]
+fn decide_on(t: &Table, a: Ask) -> Decision
+    ensures { result ≡ decide_on t.now a }
 {
     match a {
         Ask::Open(o) => decide_open(o),
-        Ask::OnTable(c) => decide_call(t, f, c),
+        Ask::OnTable(Call::Enter(e)) => decide_enter(t, e),
+        Ask::OnTable(Call::Own(id, act)) => decide_own(t, id, act),
+        Ask::OnTable(Call::TakeOff(id)) => decide_take_off(t, id),
     }
 }
 
@@ -147,51 +117,19 @@ fn out_of_turn(opened: bool, a: Ask) -> bool
     }
 }
 
-// Any request, before an accepted opening or after one, where the search for the train that it names is done.
-pub fn decide_found(opened: bool, t: Table, f: Found, r: Request) -> Decision
-    requires { f ≡ found_for t r.ask }
-    ensures { result ≡ decided opened t r }
+// Any request, before an accepted opening or after one.
+#[tactic(auto, unfolding(line::specs::Decide::decided))]
+pub fn decide(opened: bool, t: &Table, r: Request) -> Decision
+    ensures { result ≡ decided opened t.now r }
 {
-    let caller = r.caller;
-    let ask = r.ask;
-    if out_of_turn(opened, ask) {
+    if out_of_turn(opened, r.ask) {
         return refuse(Refusal::OutOfTurn);
     }
     // Before all that is judged by the table: who has no right learns nothing of it.
-    if !rights::may_ask(caller, ask) {
+    if !rights::may_ask(r.caller, r.ask) {
         return refuse(Refusal::NoRight);
     }
-    decide_ask(t, f, ask)
-}
-
-// The id that a call names.
-fn id_called(c: Call) -> u64
-    ensures { result ≡ id_named (Ask.OnTable c) }
-{
-    match c {
-        Call::Enter(e) => e.id,
-        Call::Own(id, _) => id,
-        Call::TakeOff(id) => id,
-    }
-}
-
-// The id that a request names. An opening names none.
-pub fn id_named(a: Ask) -> u64
-    ensures { result ≡ id_named a }
-{
-    match a {
-        Ask::Open(_) => 0,
-        Ask::OnTable(c) => id_called(c),
-    }
-}
-
-// Any request, before an accepted opening or after one, on a table that stays as it is.
-pub fn decide(opened: bool, t: Table, r: Request) -> Decision
-    ensures { result ≡ decided opened t r }
-{
-    let ask = r.ask;
-    let f = table_code::find(t, id_named(ask));
-    decide_found(opened, t, f, r)
+    decide_on(t, r.ask)
 }
 
 // Zeros in place of a table, where no opening has made one.

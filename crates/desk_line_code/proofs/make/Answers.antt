@@ -1,7 +1,4 @@
 -- `desk_line_code::make` meets its contract.
-use mathlib.Core.Path.{◌≡◌}
-use lib.ListN.{length}
-use Rattle.table_code.proofs.Places.{long}
 use Rattle.line.proofs.Steps.{decided_fits}
 use Rattle.desk_line.specs.Desk.{shown_at, left_at}
 use borrow.Author.Rules.{rules}
@@ -10,7 +7,7 @@ use Rattle.desk_line_code.proofs.make.Goals as goal
 pub carry_out-requires : goal.carry_out-requires
 carry_out-requires c =
     let s = c.args.s in
-    rw c.decide-d.ensures (decided_fits s.opened s.table (let size : length c.args.s.table.trains ≡ 32 = search (rules, long) in size) c.args.r)
+    rw c.decide-d.ensures (decided_fits s.opened s.table (search rules) c.args.r)
 
 pub returns : goal.returns
 unfolding shown_at left_at
