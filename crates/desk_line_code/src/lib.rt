@@ -54,12 +54,10 @@ fn ask_of(row: [u64; ROW]) -> DeskRead
 fn read(line: &[u8]) -> DeskRead
     ensures { result ≡ desk_read line.now }
 {
-    let row = wire_code::read_row(line);
-    let n = row.numbers;
-    if !row.readable {
-        return DeskRead::Nothing;
+    match wire_code::read_row(line) {
+        Some(row) => ask_of(row),
+        None => DeskRead::Nothing,
     }
-    ask_of(n)
 }
 
 // ---- what it comes to

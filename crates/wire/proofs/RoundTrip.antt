@@ -14,7 +14,6 @@ use Rattle.calls.specs.declared.Numbers.{Numbers}
 use Rattle.calls.specs.Requests.{request_of}
 use Rattle.wire.specs.declared.Scan.{Scan}
 use Rattle.wire.specs.declared.Scan.TheVariants.{Blank, Digits}
-use Rattle.wire.specs.declared.Field.TheVariants.{Number}
 use Rattle.wire.specs.Format.{total, call_columns, call_width, answer_columns, answer_width, digit, column, columns, ended, field_of, numbers_in, line_read, digit_of, left_digit, left, text, text_of, answer_text}
 use Rattle.wire.proofs.Fields.{columns_append}
 
@@ -71,7 +70,7 @@ left_read (suc w) n h =
     rw (columns_append Blank (left w (n / 10)) (left_digit n ∷ []), left_read w (n / 10) (tenth_below w n h)) (column_left n)
 
 -- a number in columns that it fits is read as that number
-pub text_read : (w n : ℕ) → 0 < w → n < 10 ^ w → field_of (text w n) ≡ Number n
+pub text_read : (w n : ℕ) → 0 < w → n < 10 ^ w → field_of (text w n) ≡ Some n
 unfolding text columns
 text_read zero n p h = absurd (omega arith)
 text_read (suc w) n p h =

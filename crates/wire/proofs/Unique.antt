@@ -14,8 +14,6 @@ use Rattle.logic.proofs.Tests.{by_test}
 use Rattle.calls.specs.Requests.{request_of}
 use Rattle.wire.specs.declared.Scan.{Scan}
 use Rattle.wire.specs.declared.Scan.TheVariants.{Blank, Digits, Bad}
-use Rattle.wire.specs.declared.Field.{Field}
-use Rattle.wire.specs.declared.Field.TheVariants.{Number, NoNumber}
 use Rattle.wire.specs.Format.{total, call_columns, call_width, is_digit, digit, column, columns, so_far, ended, field_of, with_number, numbers_in, request_by, line_read, left, text, text_of}
 use Rattle.wire.proofs.Fields.{digit_range, column_below}
 use Rattle.wire.proofs.RoundTrip.{long_more, Fits}
@@ -78,37 +76,37 @@ columns_below (b ∷ bs) s k h =
     rw e (columns_below bs (column s b) (k + 1) (column_below s b k h))
 
 -- only digits end as a number
-number_ended : (s : Scan) (n : ℕ) → ended s ≡ Number n → s ≡ Digits n
+number_ended : (s : Scan) (n : ℕ) → ended s ≡ Some n → s ≡ Digits n
 number_ended Blank n e = cc
 number_ended (Digits m) n e = cc
 number_ended Bad n e = cc
 
 -- a field that is read as n is n's text
-pub field_text : (bs : List ℕ) (n : ℕ) → field_of bs ≡ Number n → bs ≡ text (length bs) n
+pub field_text : (bs : List ℕ) (n : ℕ) → field_of bs ≡ Some n → bs ≡ text (length bs) n
 unfolding Shown left
 field_text bs n e = subst (Shown bs) (number_ended (columns Blank bs) n e) (columns_shown [] bs Blank refl)
 
 -- a field that is read as n has columns, and n fits them
-pub field_fits : (bs : List ℕ) (n : ℕ) → field_of bs ≡ Number n → (0 < length bs) × (n < 10 ^ length bs)
+pub field_fits : (bs : List ℕ) (n : ℕ) → field_of bs ≡ Some n → (0 < length bs) × (n < 10 ^ length bs)
 unfolding columns
-field_fits [] n e = let z : ◌≡◌ {A = ℕ} 0 1 = cc in absurd (omega arith)
+field_fits [] n e = absurd cc
 field_fits (b ∷ bs) n e =
     let below = columns_below (b ∷ bs) Blank 0 (omega (arith, pow-zero 10)) in
     (omega arith, rw (number_ended (columns Blank (b ∷ bs)) n e, zero-add) at below)
 
 -- ---- a line
 
-with_number_lem : (f : Field) (r : Option (List ℕ)) (ns : List ℕ) → with_number f r ≡ Some ns
-    → (n : ℕ) × (ms : List ℕ) × (f ≡ Number n) × (r ≡ Some ms) × (ns ≡ n ∷ ms)
-with_number_lem (Number n) (Some ms) ns e = (n, ms, refl, refl, cc)
-with_number_lem (Number n) None ns e = let z : ◌≡◌ {A = ℕ} 0 1 = cc in absurd (omega arith)
-with_number_lem NoNumber r ns e = let z : ◌≡◌ {A = ℕ} 0 1 = cc in absurd (omega arith)
+with_number_lem : (f : Option ℕ) (r : Option (List ℕ)) (ns : List ℕ) → with_number f r ≡ Some ns
+    → (n : ℕ) × (ms : List ℕ) × (f ≡ Some n) × (r ≡ Some ms) × (ns ≡ n ∷ ms)
+with_number_lem (Some n) (Some ms) ns e = (n, ms, refl, refl, cc)
+with_number_lem (Some n) None ns e = absurd cc
+with_number_lem None r ns e = absurd cc
 
 -- a line whose columns are read as numbers is those numbers' text, and each number fits its columns
 pub numbers_text : (ws line ns : List ℕ) → total ws ≡ length line → numbers_in ws line ≡ Some ns → (line ≡ text_of ws ns) × Fits ws ns
 unfolding numbers_in text_of
 numbers_text [] [] [] h e = (refl, tt)
-numbers_text [] [] (n ∷ ns) h e = let z : ◌≡◌ {A = ℕ} 0 1 = cc in absurd (omega arith)
+numbers_text [] [] (n ∷ ns) h e = absurd cc
 numbers_text [] (b ∷ line) ns h e = absurd (omega arith)
 numbers_text (w ∷ ws) line ns h e =
     let (n, ms, f, r, p) = with_number_lem (field_of (take w line)) (numbers_in ws (drop w line)) ns e in

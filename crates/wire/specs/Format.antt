@@ -7,8 +7,6 @@ use Rattle.calls.specs.declared.Numbers.{Numbers}
 use Rattle.calls.specs.Requests.{request_of}
 use Rattle.wire.specs.declared.Scan.{Scan}
 use Rattle.wire.specs.declared.Scan.TheVariants.{Blank, Digits, Bad}
-use Rattle.wire.specs.declared.Field.{Field}
-use Rattle.wire.specs.declared.Field.TheVariants.{Number, NoNumber}
 
 -- ---- the columns
 
@@ -53,19 +51,20 @@ columns f [] = f
 columns f (b ∷ bs) = columns (column f b) bs
 
 -- a field of spaces alone is none
-abbrev pub ended : Scan → Field
-ended Blank = NoNumber
-ended (Digits n) = Number n
-ended Bad = NoNumber
+abbrev pub ended : Scan → Option ℕ
+ended Blank = None
+ended (Digits n) = Some n
+ended Bad = None
 
-abbrev pub field_of : List ℕ → Field
+-- the number that a field shows, if it is one
+abbrev pub field_of : List ℕ → Option ℕ
 field_of bs = ended (columns Blank bs)
 
 -- the numbers in columns of these widths, if each field has one
-abbrev pub with_number : Field → Option (List ℕ) → Option (List ℕ)
-with_number (Number n) (Some ns) = Some (n ∷ ns)
-with_number (Number n) None = None
-with_number NoNumber ns = None
+abbrev pub with_number : Option ℕ → Option (List ℕ) → Option (List ℕ)
+with_number (Some n) (Some ns) = Some (n ∷ ns)
+with_number (Some n) None = None
+with_number None ns = None
 
 unfoldable pub numbers_in : List ℕ → List ℕ → Option (List ℕ)
 numbers_in [] line = Some []

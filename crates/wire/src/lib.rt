@@ -15,10 +15,3 @@ pub enum Scan {
     Digits(u64),
     Bad,
 }
-
-// A whole field.
-#[derive(Clone, Copy)]
-pub enum Field {
-    Number(u64),
-    NoNumber,
-}

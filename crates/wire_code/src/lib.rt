@@ -4,19 +4,10 @@
 ghost use Rattle.std.specs.Prelude.{◌≡◌, ◌+◌, ◌/◌, ◌≤◌, ◌<◌, length};
 ghost use Rattle.std.proofs.Math.Seq.{paste};
 ghost use Rattle.wire.specs.Format.{digit as digit_after, column as column_after, so_far, field_of, call_columns, call_width, numbers_in, row_in, line_read, digit_of, text, room_at, rendered};
-ghost use Rattle.wire_code.specs.Rows.{row_numbers};
 ghost use Rattle.wire_code.specs.Columns.{Blanked};
 
 use calls::{Numbers, ROW, Request};
-use wire::{CALL_COLUMNS, CALL_WIDTH, Field, Scan};
-
-// The numbers of a line, its code first and its caller last. Where a field is none the line is not readable, and the numbers mean nothing. (An enum may
-// not hold an array.)
-#[derive(Clone, Copy)]
-pub struct Row {
-    pub readable: bool,
-    pub numbers: [u64; ROW],
-}
+use wire::{CALL_COLUMNS, CALL_WIDTH, Scan};
 
 // The columns of an output line: the answer, and each of its three numbers.
 const CODE: usize = 2;
@@ -35,109 +26,78 @@ pub const ANSWER_WIDTH: usize = THIRD + NUMBER;
 // ---- reading
 
 // A digit after the number n. A field has 14 columns at most, so that n is below 10^13.
+#[tactic(auto, unfolding(wire::specs::Format::digit))]
 fn digit(n: u64, b: u8) -> Scan
     requires { n < 10000000000000 }
     ensures { result ≡ digit_after n b }
 {
-    if b < 48 {
-        return Scan::Bad;
+    match b {
+        b'0'..=b'9' => Scan::Digits(10 * n + u64::from(b - b'0')),
+        _ => Scan::Bad,
     }
-    if 57 < b {
-        return Scan::Bad;
-    }
-    let d = (b - 48) as u64;
-    Scan::Digits(10 * n + d)
 }
 
 // One column more. No leading zeros: after a 0 nothing may follow.
+#[tactic(auto, unfolding(wire::specs::Format::column))]
 fn column(s: Scan, b: u8) -> Scan
     requires { so_far s < 10000000000000 }
     ensures { result ≡ column_after s b }
 {
     match s {
-        Scan::Blank => {
-            if b == 32 {
-                return Scan::Blank;
-            }
-            digit(0, b)
-        }
-        Scan::Digits(n) => {
-            if n == 0 {
-                return Scan::Bad;
-            }
-            digit(n, b)
-        }
-        Scan::Bad => Scan::Bad,
+        Scan::Blank if b == b' ' => Scan::Blank,
+        Scan::Blank => digit(0, b),
+        Scan::Digits(0) | Scan::Bad => Scan::Bad,
+        Scan::Digits(n) => digit(n, b),
     }
 }
 
-// The field in these columns.
-fn field_in(field: &[u8]) -> Field
+// The number that these columns show.
+fn field_in(field: &[u8]) -> Option<u64>
     requires { length field.now ≤ 14 }
     ensures { result ≡ field_of field.now }
 {
     let mut s = Scan::Blank;
-    let mut i: usize = 0;
-    while i < field.len() {
-        s = column(s, field[i]);
-        i += 1;
+    for b in field {
+        s = column(s, *b);
     }
     match s {
-        Scan::Blank => Field::NoNumber,
-        Scan::Digits(n) => Field::Number(n),
-        Scan::Bad => Field::NoNumber,
+        Scan::Digits(n) => Some(n),
+        Scan::Blank | Scan::Bad => None,
     }
 }
 
-// The numbers of a line.
-fn numbers_in(line: &[u8]) -> Row
+// The numbers of a line, its code first and its caller last.
+fn numbers_in(line: &[u8]) -> Option<[u64; ROW]>
     requires { length line.now ≡ call_width }
-    ensures { row_numbers result ≡ numbers_in call_columns line.now }
+    ensures { result ≡ numbers_in call_columns line.now }
 {
-    let mut numbers = [0u64; ROW];
-    let mut from: usize = 0;
-    let mut i: usize = 0;
-    while i < ROW {
-        let to = from + CALL_COLUMNS[i];
-        let Field::Number(n) = field_in(&line[from..to]) else {
-            return Row {
-                readable: false,
-                numbers,
-            };
-        };
-        numbers[i] = n;
-        from = to;
-        i += 1;
+    let mut numbers = [0; ROW];
+    let mut rest = line;
+    for (i, width) in CALL_COLUMNS.iter().enumerate() {
+        let (field, after) = rest.split_at(*width);
+        numbers[i] = field_in(field)?;
+        rest = after;
     }
-    Row {
-        readable: true,
-        numbers,
-    }
+    Some(numbers)
 }
 
 // The numbers of an input line, given without its line feed.
-pub fn read_row(line: &[u8]) -> Row
-    ensures { row_numbers result ≡ row_in line.now }
+pub fn read_row(line: &[u8]) -> Option<[u64; ROW]>
+    ensures { result ≡ row_in line.now }
 {
-    if line.len() != CALL_WIDTH {
-        return Row {
-            readable: false,
-            numbers: [0u64; ROW],
-        };
+    if line.len() == CALL_WIDTH {
+        numbers_in(line)
+    } else {
+        None
     }
-    numbers_in(line)
 }
 
 // What an input line asks, given without its line feed.
+#[tactic(auto, unfolding(wire::specs::Format::line_read))]
 pub fn read_line(line: &[u8]) -> Option<Request>
     ensures { result ≡ line_read line.now }
 {
-    let row = read_row(line);
-    let n = row.numbers;
-    if !row.readable {
-        return None;
-    }
-    calls_code::request_of(n)
+    read_row(line).and_then(calls_code::request_of)
 }
 
 // ---- writing
