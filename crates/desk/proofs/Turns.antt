@@ -1,5 +1,5 @@
 -- Laws of a piece that the desk takes byte by byte. Assumes nothing.
-use Rattle.std.specs.Prelude.{Option}
+use Rattle.std.specs.Prelude.{Option, option_and_then}
 use Prim.Native.Nat.{ℕ, ◌≤◌}
 use native.Mathlib.Omega.{arith}
 use native.Mathlib.Decide.{ℕ_discrete}
@@ -14,7 +14,7 @@ use Rattle.stream.specs.declared.Stream.{Stream}
 use Rattle.stream.specs.Input.{lines, rest, begun, kept_width, kept}
 use Rattle.stream.proofs.Lines.{row_kept, kept_append}
 use Rattle.desk_line.specs.declared.DeskReply.{DeskReply}
-use Rattle.desk_line.specs.Desk.{desk_ask_by, desk_read, shown_at, left_at, desk_answered, desk_after}
+use Rattle.desk_line.specs.Desk.{desk_ask, desk_read, shown_at, left_at, desk_answered, desk_after}
 use Rattle.desk.specs.Program.{DeskTurn}
 
 -- where the desk stands once it has taken bytes in: the state, and the line that has begun
@@ -37,7 +37,8 @@ standing_cut s g (c ∷ a) b =
 -- of a line that is too long the kept bytes are enough
 answered_kept : (s : Session) (l : List ℕ) → desk_answered s (kept l) ≡ desk_answered s l
 unfolding desk_read
-answered_kept s l = ap (λ (o : Option (List ℕ)). record { shown = shown_at s (desk_ask_by o); session = left_at s (desk_ask_by o) }) (row_kept l)
+answered_kept s l =
+    ap (λ (o : Option (List ℕ)). let a = option_and_then desk_ask o in record { shown = shown_at s a; session = left_at s a }) (row_kept l)
 
 -- no byte yet
 pub none_taken : (x : Stream) → x.count ≤ kept_width → DeskTurn x [] x
