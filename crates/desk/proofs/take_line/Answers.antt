@@ -8,4 +8,4 @@ use Rattle.desk.proofs.take_line.Goals as goal
 
 pub write_line-requires : goal.write_line-requires
 write_line-requires c =
-    c.render.ensures.1 ∙ line_whole c.args.out.now _ (search rules) ∙ ap (λ (d : DeskReply). desk_line d.shown) c.answer-r.ensures
+    c.render.ensures.1 ∙ line_whole _ c.args.out.now (search rules) ∙ ap (λ (d : DeskReply). desk_line d.shown) c.answer-r.ensures
