@@ -76,26 +76,26 @@ pub const ROW: usize = 7;
 
 // ---- what is answered
 
-// What is turned down.
+// What is turned down, with document 01's number of each.
 #[derive(Clone, Copy)]
 pub enum Refusal {
-    BadLine,
-    OutOfTurn,
-    BadSetting,
-    BadEntry,
-    OnLine,
-    LineFull,
-    BadHead,
-    NoTrain,
-    NotAllowed,
-    BadRequest,
-    OldNumber,
-    OtherLength,
-    NoTrack,
-    BadPlace,
-    NotLeaving,
-    NoRight,
-    Pending,
+    BadLine = 1,
+    OutOfTurn = 2,
+    BadSetting = 3,
+    BadEntry = 4,
+    OnLine = 5,
+    LineFull = 6,
+    BadHead = 7,
+    NoTrain = 8,
+    NotAllowed = 9,
+    BadRequest = 10,
+    OldNumber = 11,
+    OtherLength = 12,
+    NoTrack = 13,
+    BadPlace = 14,
+    NotLeaving = 15,
+    NoRight = 16,
+    Pending = 17,
 }
 
 // What an accepted call gives. Entered: B, j and end. Ordered: the order and its reach. Extended: the end, and whether the request

@@ -45,7 +45,7 @@ digit_shown bs n b p =
     (λ e. rw e tt)
 
 -- what is left of a number that is not 0 is that number's text
-left_text : (w n : ℕ) → eqb n 0 ≡ false → left w n ≡ text w n
+pub left_text : (w n : ℕ) → eqb n 0 ≡ false → left w n ≡ text w n
 unfolding left text
 left_text zero n e = refl
 left_text (suc w) n e = rw e refl

@@ -4,7 +4,6 @@
 ghost use Rattle.std.specs.Prelude.{◌≡◌, ◌+◌, ◌/◌, ◌≤◌, ◌<◌, length};
 ghost use Rattle.std.proofs.Math.Seq.{paste};
 ghost use Rattle.wire.specs.Format.{digit as digit_after, column as column_after, so_far, field_of, call_columns, call_width, numbers_in, row_in, line_read, digit_of, text, room_at, rendered};
-ghost use Rattle.wire_code.specs.Columns.{Blanked};
 
 use calls::{Numbers, ROW, Request};
 use wire::{CALL_COLUMNS, CALL_WIDTH, Scan};
@@ -102,40 +101,20 @@ pub fn read_line(line: &[u8]) -> Option<Request>
 
 // ---- writing
 
-// The last digit of n, where a tenth of n is known.
-fn last_digit(n: u64, tenth: u64) -> u8
-    requires { tenth ≡ n / 10 }
-    ensures { result ≡ digit_of n }
-{
-    48 + (n - 10 * tenth) as u8
-}
-
-// Spaces in so many columns of out, from place `at` on. The compiler makes two stores of 14 columns, and one of two.
-fn blank(out: &mut [u8], at: usize, width: usize)
-    requires { at + width ≤ length out.old }
-    ensures { Blanked out.old at width out.new }
-{
-    let mut i: usize = 0;
-    while i < width {
-        out[at + i] = 32;
-        i += 1;
-    }
-}
-
 // n right-justified in so many columns of out, from place `at` on: spaces in all of them, and then its digits from the right.
 pub fn put(out: &mut [u8], at: usize, width: usize, n: u64)
     requires { (0 < width) × (at + width ≤ length out.old) }
     ensures { out.new ≡ paste out.old at (text width n) width }
 {
-    blank(out, at, width);
-    let mut i = width - 1;
-    let mut rest = n / 10;
-    out[at + i] = last_digit(n, rest);
-    while 0 < i && 0 < rest {
-        i -= 1;
-        let tenth = rest / 10;
-        out[at + i] = last_digit(rest, tenth);
-        rest = tenth;
+    let field = &mut out[at..at + width];
+    field.fill(b' ');
+    let mut rest = n;
+    for i in (0..width).rev() {
+        field[i] = b'0' + (rest % 10) as u8;
+        rest /= 10;
+        if rest == 0 {
+            return;
+        }
     }
 }
 
@@ -144,15 +123,15 @@ pub fn put(out: &mut [u8], at: usize, width: usize, n: u64)
 pub fn render(a: Numbers, out: &mut [u8], at: usize) -> bool
     ensures { (result ≡ room_at out.old at) × (out.new ≡ rendered a out.old at) }
 {
-    if out.len() < ANSWER_WIDTH {
-        return false;
+    let room = out
+        .len()
+        .checked_sub(ANSWER_WIDTH)
+        .is_some_and(|last| at <= last);
+    if room {
+        put(out, at, CODE, a.number);
+        put(out, at + FIRST, NUMBER, a.first);
+        put(out, at + SECOND, NUMBER, a.second);
+        put(out, at + THIRD, NUMBER, a.third);
     }
-    if out.len() - ANSWER_WIDTH < at {
-        return false;
-    }
-    put(out, at + THIRD, NUMBER, a.third);
-    put(out, at + SECOND, NUMBER, a.second);
-    put(out, at + FIRST, NUMBER, a.first);
-    put(out, at, CODE, a.number);
-    true
+    room
 }

@@ -1,29 +1,19 @@
 -- `wire_code::render` meets its contract.
-use Prim.Native.Nat.{ℕ, ◌+◌, ◌≤◌, ◌<◌}
+use Prim.Native.Nat.{◌+◌, ◌≤◌}
 use native.Mathlib.Omega.{arith}
-use mathlib.Core.Bool.{false}
-use mathlib.Core.Path.{◌≡◌, refl, ◌∙◌}
-use mathlib.Core.List.{List}
+use mathlib.Core.Path.{◌∙◌}
 use lib.ListN.{length}
-use borrow.Author.Tests.{lt-leb, le-leb}
-use Rattle.calls.specs.declared.Numbers.{Numbers}
-use Rattle.wire.specs.Format.{answer_width, room_at, rendered}
+use borrow.Author.Rules.{rules}
+use borrow.Author.Tests.{le-leb}
+use Rattle.wire.specs.Format.{answer_width}
 use Rattle.wire_code.proofs.Texts.{answer_put}
 use Rattle.wire_code.proofs.render.Goals as goal
 
-no_room : (a : Numbers) (out : List ℕ) (at : ℕ) → length out < at + answer_width → (false ≡ room_at out at) × (out ≡ rendered a out at)
-no_room a out at h = let e = lt-leb (at + answer_width) (length out) h in (rw e refl, rw e refl)
-
-pub returns-then-out-lt-ANSWER_WIDTH : goal.returns-then-out-lt-ANSWER_WIDTH
-returns-then-out-lt-ANSWER_WIDTH c = let a = c.args in no_room a.a a.out.now a.at (omega arith)
-
-pub returns-then-out-at : goal.returns-then-out-at
-returns-then-out-at c = let a = c.args in no_room a.a a.out.now a.at (omega arith)
-
-pub returns : goal.returns
-returns c =
+pub returns-then-room : goal.returns-then-room
+returns-then-room c =
     let a = c.args in
     let d = a.out.now in
-    let room : a.at + answer_width ≤ length d = omega arith in
+    let room : a.at + answer_width ≤ length d = search rules in
+    let le : a.at ≤ length d = omega arith in
     let e = le-leb (a.at + answer_width) (length d) room in
-    (rw e refl, rw e (c.put-4.ensures ∙ rw (c.put-3.ensures, c.put-2.ensures, c.put.ensures) (answer_put d a.at a.a room)))
+    (rw e c.if-room.true, rw e (c.put-then-room-3.ensures ∙ rw (c.put-then-room-2.ensures, c.put-then-room.ensures, c.put.ensures) (answer_put d a.at a.a le)))
