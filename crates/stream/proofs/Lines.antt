@@ -4,7 +4,6 @@ use Rattle.calls.specs.declared.Request.{Request}
 use Prim.Native.Nat.{ℕ, zero, suc, ◌+◌, ◌≤◌, ◌<◌}
 use native.Mathlib.Omega.{arith}
 use mathlib.Core.Path.{◌≡◌, refl, sym, ap, ◌∙◌}
-use mathlib.Core.Bool.{true}
 use mathlib.Core.List.{List, [], ◌∷◌, ◌++◌, append_assoc, append-nil}
 use lib.Dec.{eqb, leb}
 use lib.ListN.{length, take, drop, get_or, length-take, take-append-drop}
@@ -131,7 +130,7 @@ module _ (s : Session) (g w piece : List ℕ) (i : ℕ) (more : i < length piece
 module _ (x : Stream) (piece before out bytes : List ℕ) (s : Session) (count at : ℕ) where
   pub piece_taken : at ≤ length out → count ≤ kept_width → drop at out ≡ drop at before
       → standing x.session (begun x) [] piece ≡ record { session = s; begins = kept (take count bytes); written = take at out }
-      → Taken x piece before (record { taken = true; stream = record { session = s; bytes = bytes; count = count }; count = at }) out
+      → Taken x piece before at (record { session = s; bytes = bytes; count = count }) out
   piece_taken room bounded same e =
       let w : answers_to x piece ≡ take at out = ap (λ (z : Standing). z.written) e in
       let n : at ≡ length (answers_to x piece) = sym (ap length w ∙ length-take-le at out room) in

@@ -1,16 +1,15 @@
 -- However reads cut an input into pieces, the session writes the same. Assumes nothing.
 use Prim.Native.Nat.{ℕ, ◌*◌, ◌/◌, ◌≤◌}
 use native.Mathlib.Omega.{arith}
-use mathlib.Core.Path.{◌≡◌, refl, sym, ap, subst, ◌∙◌}
-use mathlib.Core.Bool.{Bool, true}
+use Rattle.std.specs.Prelude.{Option, Some, None, unwrap_or}
+use mathlib.Core.Path.{◌≡◌, refl, sym, ap, ◌∙◌}
+use mathlib.Core.Bool.{true≢false}
 use mathlib.Core.List.{List, [], ◌∷◌, ◌++◌, append_assoc, append-nil}
 use lib.ListN.{length}
 use borrow.Author.Tests.{le-leb}
 use Rattle.stream.specs.declared.Stream.{Stream}
-use Rattle.stream.specs.declared.Fed.{Fed}
-use Rattle.stream.specs.declared.Finished.{Finished}
 use Rattle.stream.specs.Session.{closed}
-use Rattle.stream.specs.Input.{lines, rest, after, answers, last_answer, output, begun, kept, output_width, has_room, over, answers_to, Taken, TakenOrLeft, FeedPromise, FinishPromise, Turns}
+use Rattle.stream.specs.Input.{lines, rest, after, answers, last_answer, output, begun, kept, output_width, has_room, over, answers_to, Taken, FeedPromise, FinishPromise, Turns}
 use Rattle.stream.specs.Input.Turns.{no_turns, more}
 use Rattle.stream.proofs.Bytes.{last_long}
 use Rattle.stream.proofs.Lines.{Standing, standing, standing_kept, standing_end, standing_cut}
@@ -51,16 +50,16 @@ module _ (x y : Stream) (input w : List ℕ) (s : x.session ≡ closed) (b : beg
 -- ---- what a program has of `feed` and `finish` where there is room
 
 -- each piece is taken
-pub fed_taken : (x : Stream) (piece out : List ℕ) (r : Fed) (now : List ℕ) → FeedPromise x piece out r now → output_width * length piece ≤ length out
-    → Taken x piece out r now
+pub fed_taken : (x : Stream) (piece out : List ℕ) (r : Option ℕ) (y : Stream) (now : List ℕ) → FeedPromise x piece out r y now
+    → output_width * length piece ≤ length out → Taken x piece out (unwrap_or r 0) y now
 unfolding has_room
-fed_taken x piece out r now p room =
-    let all : r.taken ≡ true = p.taken ∙ le-leb (length piece) (length out / output_width) (omega arith) in
-    subst (λ (q : Bool). TakenOrLeft q x piece out r now) all p.so
+fed_taken x piece out (Some n) y now p room = p.so
+fed_taken x piece out None y now p room =
+    absurd (true≢false (sym (le-leb (length piece) (length out / output_width) (omega arith)) ∙ sym p.taken))
 
 -- and so is the end of the input
-pub last_taken : (x : Stream) (out : List ℕ) (r : Finished) (now : List ℕ) → FinishPromise x out r now → output_width ≤ length out
-    → (now ≡ over (last_answer (begun x)) out) × (r.count ≡ length (last_answer (begun x)))
-last_taken x out r now p room =
-    let all : r.taken ≡ true = p.taken ∙ le-leb (length (last_answer (begun x))) (length out) (omega (arith, last_long (begun x))) in
-    (rw all at p.written, rw all at p.count)
+pub last_taken : (x : Stream) (out : List ℕ) (r : Option ℕ) (now : List ℕ) → FinishPromise x out r now → output_width ≤ length out
+    → (now ≡ over (last_answer (begun x)) out) × (unwrap_or r 0 ≡ length (last_answer (begun x)))
+last_taken x out (Some n) now p room = (p.written, p.count)
+last_taken x out None now p room =
+    absurd (true≢false (sym (le-leb (length (last_answer (begun x))) (length out) (omega (arith, last_long (begun x)))) ∙ sym p.taken))

@@ -1,12 +1,10 @@
 -- Document 01, "The session program": a whole input and its output. Then the same where the input comes in pieces.
-use Rattle.std.specs.Prelude.{ℕ, ◌+◌, ◌/◌, ◌≡◌, Bool, true, false, cond, List, [], ◌∷◌, ◌++◌, eqb, leb, length, take, drop}
+use Rattle.std.specs.Prelude.{ℕ, ◌+◌, ◌/◌, ◌≡◌, Bool, cond, List, [], ◌∷◌, ◌++◌, eqb, leb, length, take, drop, Option, Some, None, is_some, IfSome}
 use Rattle.calls.specs.declared.Numbers.{Numbers}
 use Rattle.calls.specs.Answers.{numbers}
 use Rattle.wire.specs.Format.{call_width, answer_width, answer_text}
 use Rattle.stream.specs.declared.Session.{Session}
 use Rattle.stream.specs.declared.Stream.{Stream}
-use Rattle.stream.specs.declared.Fed.{Fed}
-use Rattle.stream.specs.declared.Finished.{Finished}
 use Rattle.stream.specs.Session.{closed, answered}
 
 -- ---- the whole input
@@ -77,37 +75,37 @@ pub record Turn (x : Stream) (piece : List ℕ) (y : Stream) : Type 0 where
   pub session : y.session ≡ after x.session (lines (begun x) piece)
   pub begins : begun y ≡ kept (rest (begun x) piece)
 
--- Taken: the lines that the piece ends are answered; out holds their output lines, and after these what it held before.
-pub record Taken (x : Stream) (piece out : List ℕ) (r : Fed) (now : List ℕ) : Type 0 where
-  pub turn : Turn x piece r.stream
+-- Taken: the lines that the piece ends are answered, in n bytes; out holds their output lines, and after these what it held before.
+pub record Taken (x : Stream) (piece out : List ℕ) (n : ℕ) (y : Stream) (now : List ℕ) : Type 0 where
+  pub turn : Turn x piece y
   pub written : now ≡ over (answers_to x piece) out
-  pub count : r.count ≡ length (answers_to x piece)
+  pub count : n ≡ length (answers_to x piece)
 
--- Not taken, for want of room: nothing is altered.
-pub record Left (x : Stream) (out : List ℕ) (r : Fed) (now : List ℕ) : Type 0 where
-  pub stream : r.stream ≡ x
+-- Not taken, for want of room: nothing is altered, neither the stream nor out.
+pub record Left (x : Stream) (out : List ℕ) (y : Stream) (now : List ℕ) : Type 0 where
+  pub stream : y ≡ x
   pub written : now ≡ out
-  pub count : r.count ≡ 0
 
-abbrev pub TakenOrLeft : Bool → Stream → List ℕ → List ℕ → Fed → List ℕ → Type 0
-TakenOrLeft true x piece out r now = Taken x piece out r now
-TakenOrLeft false x piece out r now = Left x out r now
+abbrev pub TakenOrLeft : Option ℕ → Stream → List ℕ → List ℕ → Stream → List ℕ → Type 0
+TakenOrLeft (Some n) x piece out y now = Taken x piece out n y now
+TakenOrLeft None x piece out y now = Left x out y now
 
--- What `feed` promises of the stream x, a piece of the input, the buffer out before and after it, and what it gives back.
-pub record FeedPromise (x : Stream) (piece out : List ℕ) (r : Fed) (now : List ℕ) : Type 0 where
-  pub taken : r.taken ≡ has_room piece out
-  pub so : TakenOrLeft r.taken x piece out r now
+-- What `feed` promises of the stream x, a piece of the input and the buffer out before it, of what it gives back, and of the stream y and the
+-- buffer after it. It gives the number of bytes that were written, or nothing where the piece is not taken.
+pub record FeedPromise (x : Stream) (piece out : List ℕ) (r : Option ℕ) (y : Stream) (now : List ℕ) : Type 0 where
+  pub taken : is_some r ≡ has_room piece out
+  pub so : TakenOrLeft r x piece out y now
 
 -- What `finish` writes where the end of the input is taken.
 abbrev pub last_written : Bool → Stream → List ℕ
 last_written taken x = cond taken (last_answer (begun x)) []
 
--- What `finish` promises of the stream x, the buffer out before and after it, and what it gives back. Without room for the answer to a
--- last line the end of the input is not taken, and nothing is altered.
-pub record FinishPromise (x : Stream) (out : List ℕ) (r : Finished) (now : List ℕ) : Type 0 where
-  pub taken : r.taken ≡ leb (length (last_answer (begun x))) (length out)
-  pub written : now ≡ over (last_written r.taken x) out
-  pub count : r.count ≡ length (last_written r.taken x)
+-- What `finish` promises of the stream x, the buffer out before and after it, and what it gives back: the number of bytes that were written.
+-- Without room for the answer to a last line the end of the input is not taken, and nothing is altered.
+pub record FinishPromise (x : Stream) (out : List ℕ) (r : Option ℕ) (now : List ℕ) : Type 0 where
+  pub taken : is_some r ≡ leb (length (last_answer (begun x))) (length out)
+  pub written : now ≡ over (last_written (is_some r) x) out
+  pub count : IfSome r (λ n. n ≡ length (last_answer (begun x)))
 
 -- Turn after turn from the stream x on: the bytes that were taken in, the stream after them, and all that was answered.
 pub data Turns (x : Stream) : List ℕ → Stream → List ℕ → Type 0 where

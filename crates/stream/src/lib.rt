@@ -8,8 +8,7 @@ use table::Table;
 // The bytes that are kept of a line. One more than a call has: enough to tell that the line is too long.
 pub const KEPT_WIDTH: usize = wire::CALL_WIDTH + 1;
 
-// The state between lines: the table that an opening made, and whether one was accepted. Here and in `Fed` the table comes before the flag:
-// behind one, the compiler copies it once more for each piece of the input.
+// The state between lines: the table that an opening made, and whether one was accepted.
 #[derive(Clone, Copy)]
 pub struct Session {
     pub table: Table,
@@ -28,20 +27,5 @@ pub struct Reply {
 pub struct Stream {
     pub session: Session,
     pub bytes: [u8; KEPT_WIDTH],
-    pub count: usize,
-}
-
-// What became of a piece of the input: the stream after it, how many bytes were written, and whether it was taken.
-#[derive(Clone, Copy)]
-pub struct Fed {
-    pub stream: Stream,
-    pub count: usize,
-    pub taken: bool,
-}
-
-// What became of the end of the input: whether out had room for the answer to a last line, and how many bytes were written.
-#[derive(Clone, Copy)]
-pub struct Finished {
-    pub taken: bool,
     pub count: usize,
 }

@@ -1,5 +1,5 @@
 -- Where a line ends in a piece of the input, as the code looks for it.
-use Rattle.std.specs.Prelude.{ℕ, ◌≤◌, ◌<◌, ◌≡◌, List, length, get_or}
+use Rattle.std.specs.Prelude.{ℕ, ◌≤◌, ◌<◌, ◌≡◌, List, ◌∷◌, ◌++◌, length, get_or}
 
 -- ---- words of inner contracts
 
@@ -13,3 +13,8 @@ pub record LineEnd (l : List ℕ) (a e : ℕ) : Type 0 where
   pub within : e ≤ length l
   pub none : NoFeed l a e
   pub feed : e < length l → get_or l e 0 ≡ 10
+
+-- the first line of l, and what stands after its line feed
+pub record Split (l line rest : List ℕ) : Type 0 where
+  pub all : l ≡ line ++ (10 ∷ rest)
+  pub none : NoFeed line 0 (length line)

@@ -1,11 +1,6 @@
-use Prim.Native.Nat.{◌+◌, ◌-◌, ◌≤◌}
-use mathlib.Core.Path.{◌≡◌}
-use mathlib.Core.Bool.{false}
-use Rattle.stream_line_code.specs.Feeds.{NoFeed}
+use Rattle.std.proofs.Common.{◌≡◌, nat_eq, take}
+use Rattle.std.specs.List.{list_any}
 use Rattle.stream_line_code.proofs.has_feed.Given as goal
 
-abbrev pub invariant-loop-i : goal.invariant-loop-i
-invariant-loop-i l = (l.i ≤ 16) × (l.any ≡ false → NoFeed l.piece l.from (l.from + l.i))
-
-abbrev pub decreases-loop-i : goal.decreases-loop-i
-decreases-loop-i l = 16 - l.i
+abbrev pub invariant-loop-b : goal.invariant-loop-b
+invariant-loop-b l = l.any ≡ list_any (λ b. nat_eq b 10) (take l.b-index l.block)

@@ -1,29 +1,17 @@
 -- `stream_line_code::line_end` meets its contract.
-use native.Mathlib.Omega.{arith}
-use Rattle.stream_line_code.proofs.Feeds.{none_more}
+use Rattle.std.proofs.Common.{rules, tests, ◌+◌, length, drop, ℕ, List, arith, ◌∙◌, ap}
+use Rattle.std.specs.Option.{unwrap_or}
+use Rattle.std.proofs.lemmas.Slice.{between_to_end}
+use Rattle.std.proofs.lemmas.Iterator.{YieldsList-from_slice}
+use Rattle.std.proofs.lemmas.Iterator.Search.{position_from_yields_List}
+use Rattle.stream_line_code.proofs.Feeds.{is_feed, place_of_first, line_ends}
 use Rattle.stream_line_code.proofs.line_end.Goals as goal
 
-pub loop-i-init : goal.loop-i-init
-loop-i-init c = c.past_blocks-i.ensures
-
-pub bounds-piece-i : goal.bounds-piece-i
-bounds-piece-i c = omega arith
-
-pub returns-then-piece-i-eq10 : goal.returns-then-piece-i-eq10
-returns-then-piece-i-eq10 c =
-    let v = c.loop-i.invariant in
-    record { from = v.0; within = v.1; none = v.2; feed = λ h. c.if-piece-i-eq10.true }
-
-pub overflow_add-i : goal.overflow_add-i
-overflow_add-i c = omega arith
-
-pub loop-i-smaller : goal.loop-i-smaller
-loop-i-smaller c = omega arith
-
-pub loop-i-preserved : goal.loop-i-preserved
-loop-i-preserved c =
-    let a = c.args in
-    (omega arith, omega arith, none_more a.piece.now a.from c.loop-i.i c.loop-i.invariant.2 c.if-piece-i-eq10.false)
-
 pub returns : goal.returns
-returns c = let v = c.loop-i.invariant in record { from = v.0; within = v.1; none = v.2; feed = λ h. absurd (omega arith) }
+returns c =
+    let l = c.args.piece.now in
+    let b = c.args.from + c.past_blocks.result in
+    let rest = between_to_end l b (length l) (omega arith) in
+    let found = position_from_yields_List is_feed _ _ c.position.result c.position.ensures.ran (YieldsList-from_slice (drop b l) (c.iter.ensures.rest ∙ rest)) (λ x b q k. search (rules, tests)) in
+    let first = place_of_first is_feed (drop b l) c.position.result c.unwrap_or.result found (c.unwrap_or.ensures ∙ ap (λ (m : List ℕ). unwrap_or c.position.result (length m)) rest) in
+    line_ends l c.args.from c.past_blocks.result c.unwrap_or.result c.requires (rw (between_to_end l c.args.from (length l) (omega arith)) at c.past_blocks.ensures) first

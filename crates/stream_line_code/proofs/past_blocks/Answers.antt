@@ -1,29 +1,18 @@
 -- `stream_line_code::past_blocks` meets its contract.
-use Prim.Native.Nat.{◌+◌}
-use native.Mathlib.Omega.{arith}
-use Rattle.stream_line_code.proofs.Feeds.{none_yet, none_joined}
+use Rattle.std.proofs.Common.{rules, tests, ◌/◌, length, ℕ, List, arith, ◌∙◌, ap}
+use Rattle.std.proofs.lemmas.Iterator.{YieldsList-from_slice}
+use Rattle.std.proofs.lemmas.Iterator.Search.{position_from_yields_List}
+use Rattle.std.specs.Option.{unwrap_or}
+use Rattle.std.specs.List.{list_any}
+use Rattle.std.specs.Simd.{first_chunks}
+use Rattle.stream_line_code.proofs.Feeds.{is_feed, place_of_first, none_in_blocks}
 use Rattle.stream_line_code.proofs.past_blocks.Goals as goal
 
-pub loop-i-init : goal.loop-i-init
-loop-i-init c = let a = c.args in (omega arith, omega arith, none_yet a.piece.now a.from)
-
-pub overflow_sub-piece : goal.overflow_sub-piece
-overflow_sub-piece c = omega arith
-
-pub has_feed-requires : goal.has_feed-requires
-has_feed-requires c = omega arith
-
-pub returns-then-has_feed : goal.returns-then-has_feed
-returns-then-has_feed c = c.loop-i.invariant
-
-pub overflow_add-i : goal.overflow_add-i
-overflow_add-i c = omega arith
-
-pub loop-i-smaller : goal.loop-i-smaller
-loop-i-smaller c = omega arith
-
-pub loop-i-preserved : goal.loop-i-preserved
-loop-i-preserved c =
-    let a = c.args in
-    let i = c.loop-i.i in
-    (omega arith, omega arith, none_joined a.piece.now a.from i (i + 16) c.loop-i.invariant.2 (c.has_feed.ensures c.if-has_feed.false))
+pub returns : goal.returns
+returns c =
+    let l = c.args.piece.now in
+    let n = length l / 16 in
+    let found = position_from_yields_List (λ (block : List ℕ). list_any is_feed block) _ _ c.position.result c.position.ensures.ran (YieldsList-from_slice _ (c.iter.ensures.rest ∙ c.as_chunks.ensures.front)) (λ x b q k. search (rules, tests)) in
+    let last = c.unwrap_or-past.ensures ∙ ap (λ (m : List (List ℕ)). unwrap_or c.position.result (length m)) c.as_chunks.ensures.front in
+    let first = place_of_first (list_any is_feed) (first_chunks 16 n l) c.position.result c.unwrap_or-past.result found last in
+    rw first (none_in_blocks n l (omega arith))
