@@ -1,17 +1,15 @@
 -- The desk beside the session, line by line: on a line that the session reads it answers as the session does, and its state is the session's. What
 -- previews leave and show is said by code and in the columns of the output.
 -- Assumes nothing.
-use Rattle.std.specs.Prelude.{Option, None, Some, Err, option_map, option_and_then}
-use Prim.Native.Nat.{ℕ, ◌+◌, ◌-◌, ◌≤◌}
+use Rattle.std.specs.Prelude.{Option, None, Some, Err, option_and_then}
+use Prim.Native.Nat.{ℕ, ◌+◌, ◌≤◌}
 use mathlib.Core.Bool.{Bool, true, false, cond}
 use mathlib.Core.List.{List, [], ◌∷◌, ◌++◌, append_assoc, append-nil}
 use mathlib.Core.Path.{◌≡◌, refl, ap, ◌∙◌}
 use native.Mathlib.Omega.{arith}
-use lib.Dec.{leb}
+use Rattle.std.proofs.lemmas.Bool.Decides.{nat_tests}
 use lib.ListN.{take, set}
 use lib.Seq.{take_at}
-use borrow.Author.Tests.{ne_eqb, le-leb, leb-true}
-use Rattle.logic.proofs.Tests.{by_test}
 use Rattle.motion.specs.Orders.{order_number, order_cap}
 use Rattle.calls.specs.declared.Opening.{Opening}
 use Rattle.calls.specs.declared.Call.{Call}
@@ -24,7 +22,6 @@ use Rattle.calls.specs.Requests.{at, request, request_of}
 use Rattle.table.specs.declared.Table.{Table}
 use Rattle.table.proofs.Sentences.{zero_record}
 use Rattle.line.specs.declared.Shown.{Shown}
-use Rattle.line.specs.Decide.{refused}
 use Rattle.line.specs.Preview.{previewed}
 use Rattle.wire.specs.Format.{row_in, request_by, line_read, text, text_of, answer_text}
 use Rattle.wire.proofs.RoundTrip.{answer_long}
@@ -41,32 +38,25 @@ use Rattle.desk_line.specs.Columns.{desk_line}
 -- no call of the session has a code from 50 on
 above_50 : (row : List ℕ) → 50 ≤ at row 0 → request_of row ≡ None
 unfolding request_of
-above_50 row h =
-    let other : (c : ℕ) → c ≤ 8 → at row 0 ≡ c → ⊥ = λ c low e. omega arith in
-    rw (ne_eqb (at row 0) 1 (other 1 (omega arith)), ne_eqb (at row 0) 2 (other 2 (omega arith)), ne_eqb (at row 0) 3 (other 3 (omega arith)), ne_eqb (at row 0) 4 (other 4 (omega arith)), ne_eqb (at row 0) 5 (other 5 (omega arith)), ne_eqb (at row 0) 6 (other 6 (omega arith)), ne_eqb (at row 0) 7 (other 7 (omega arith)), ne_eqb (at row 0) 8 (other 8 (omega arith)))
+above_50 row h = grind (arith, nat_tests)
 
 -- a row that the session reads is read as the same request, which is made
 row_made : (row : List ℕ) (r : Request) → request_of row ≡ Some r → desk_ask row ≡ Some (Made r)
 unfolding desk_ask
-row_made row r e =
-    by_test (leb 50 (at row 0))
-    (λ high. let z : ◌≡◌ {A = ℕ} 0 1 = cc (above_50 row (leb-true 50 (at row 0) high)) in absurd (omega arith))
-    (λ low. rw (low, e))
+row_made row r e = grind (arith, nat_tests, above_50 row, e)
 
 pub session_read : (l : List ℕ) (r : Request) → line_read l ≡ Some r → desk_read l ≡ Some (Made r)
 unfolding line_read desk_read
 session_read l r = go (row_in l)
   where
     go : (o : Option (List ℕ)) → request_by o ≡ Some r → option_and_then desk_ask o ≡ Some (Made r)
-    go None e = let z : ◌≡◌ {A = ℕ} 0 1 = cc in absurd (omega arith)
+    go None e = cc
     go (Some row) e = row_made row r e
 
 -- code 50 + c previews call c
 pub preview_read : (l row : List ℕ) (c : ℕ) (r : Request) → row_in l ≡ Some row → at row 0 ≡ 50 + c → request_of (set row 0 c) ≡ Some r → desk_read l ≡ Some (Tried r)
 unfolding desk_read desk_ask
-preview_read l row c r has code reads =
-    let above : at row 0 - 50 ≡ c = omega arith in
-    ap (option_and_then desk_ask) has ∙ rw (le-leb 50 (at row 0) (omega arith), above, reads)
+preview_read l row c r has code reads = grind (arith, nat_tests, has, code, reads)
 
 -- ---- beside the session
 
@@ -95,22 +85,14 @@ as_in_the_session s l r reads =
 -- the desk to the session's state.
 not_made : (row : List ℕ) (s : Session) → request_of row ≡ None → left_at s (desk_ask row) ≡ s
 unfolding desk_ask left_at
-not_made row s e = by_test (leb 50 (at row 0)) (λ high. rw high (tried (request_of (set row 0 (at row 0 - 50))))) (λ low. rw (low, e))
-  where
-    tried : (q : Option Request) → left_at s (option_map Tried q) ≡ s
-    tried (Some r) = refl
-    tried None = refl
+not_made row s e = grind (arith, nat_tests, e)
 
 pub same_state : (s : Session) (l : List ℕ) → (desk_answered s l).session ≡ (answered s l).session
 unfolding line_read line_decision desk_read left_at
 same_state s l = go (row_in l)
   where
-    refuses : (b : Bool) (t : Table) → session b t ≡ (replied (session b t) (refused BadLine)).session
-    refuses true t = refl
-    refuses false t = refl
-
     stays : s ≡ (replied s (line_decision s None)).session
-    stays = refuses s.opened s.table
+    stays = grind (arith, nat_tests)
 
     row_asks : (row : List ℕ) (q : Option Request) → request_of row ≡ q → left_at s (desk_ask row) ≡ (replied s (line_decision s q)).session
     row_asks row (Some r) e = ap (left_at s) (row_made row r e)
