@@ -17,6 +17,7 @@ use Rattle.table.specs.Table.{places, Fits}
 use Rattle.line.specs.declared.Decision.{Decision}
 use Rattle.line.proofs.Steps.{decided_fits}
 use Rattle.stream.specs.declared.Session.{Session}
+use Rattle.stream.specs.declared.Reply.{Reply}
 use Rattle.stream.specs.declared.Stream.{Stream}
 use Rattle.stream.specs.Session.{line_decision, replied, answered}
 use Rattle.stream.specs.Input.{lines, rest, after, output_line, answers, begun, kept_width, kept, answers_to, Taken}
@@ -30,14 +31,6 @@ pub record Standing : Type 0 where
 
 abbrev pub standing : Session → List ℕ → List ℕ → List ℕ → Standing
 standing s g w bs = record { session = after s (lines g bs); begins = kept (rest g bs); written = w ++ answers s (lines g bs) }
-
--- ---- what is decided of a line
-
--- the table has the place that the change needs
-pub line_fits : (s : Session) → length s.table.trains ≡ places → (r : Option Request) (d : Decision) → d ≡ line_decision s r → Fits s.table d.change
-unfolding line_decision
-line_fits s size (Some r) d e = rw e (decided_fits s.opened s.table size r)
-line_fits s size None d e = rw e tt
 
 -- ---- of a line that is too long the kept bytes are enough
 
@@ -114,30 +107,35 @@ standing_cut s g w (c ∷ a) b =
 
 -- ---- feeding a piece
 
-module _ (s : Session) (g w piece : List ℕ) (i : ℕ) (more : i < length piece) where
-  next : standing s g w (drop i piece) ≡ standing s g w (get_or piece i 0 ∷ drop (i + 1) piece)
-  next = ap (standing s g w) (rw (add-one i) (drop-cons piece i 0 more))
+-- bytes without a line feed are of the line that has begun
+pub standing_bytes : (s : Session) (g w l bs : List ℕ) → ((k : ℕ) → k < length l → get_or l k 0 ≡ 10 → ⊥)
+    → standing s g w (l ++ bs) ≡ standing s (g ++ l) w bs
+standing_bytes s g w [] bs none = ap (λ (h : List ℕ). standing s h w bs) (sym (append-nil g))
+standing_bytes s g w (b ∷ l) bs none =
+    standing_byte s g w b (l ++ bs) (none 0 (omega arith))
+    ∙ standing_bytes s (g ++ (b ∷ [])) w l bs (λ k h. none (suc k) (omega arith))
+    ∙ ap (λ (h : List ℕ). standing s h w bs) (append_assoc g (b ∷ []) l)
 
-  -- the line feed at place i: the line is answered
-  pub line_taken : (d : Decision) (v : List ℕ) → get_or piece i 0 ≡ 10 → d ≡ line_decision s (line_read g) → v ≡ w ++ output_line (numbers_of d.answer)
-      → standing s g w (drop i piece) ≡ standing (replied s d).session [] v (drop (i + 1) piece)
-  line_taken d v n e f =
-      next ∙ standing_line s g w (get_or piece i 0) (drop (i + 1) piece) n
-      ∙ ap (λ (q : Decision). standing (replied s q).session [] (w ++ output_line (numbers_of q.answer)) (drop (i + 1) piece)) (sym e)
-      ∙ ap (λ (l : List ℕ). standing (replied s d).session [] l (drop (i + 1) piece)) (sym f)
+-- a line feed: the line is answered
+pub line_taken : (s : Session) (g w bs : List ℕ) (r : Reply) (v : List ℕ) → r ≡ answered s g → v ≡ w ++ output_line r.answer
+    → standing s g w (10 ∷ bs) ≡ standing r.session [] v bs
+line_taken s g w bs r v e f =
+    standing_line s g w 10 bs refl
+    ∙ ap (λ (q : Reply). standing q.session [] (w ++ output_line q.answer) bs) (sym e)
+    ∙ ap (λ (l : List ℕ). standing r.session [] l bs) (sym f)
 
 -- the whole piece is taken: out holds the first `at` bytes as written and the others as before
-module _ (x : Stream) (piece before out bytes : List ℕ) (s : Session) (count at : ℕ) where
-  pub piece_taken : at ≤ length out → count ≤ kept_width → drop at out ≡ drop at before
-      → standing x.session (begun x) [] piece ≡ record { session = s; begins = kept (take count bytes); written = take at out }
-      → Taken x piece before at (record { session = s; bytes = bytes; count = count }) out
+module _ (x : Stream) (piece before out : List ℕ) (y : Stream) (at : ℕ) where
+  pub piece_taken : at ≤ length out → y.count ≤ kept_width → drop at out ≡ drop at before
+      → standing x.session (begun x) [] piece ≡ record { session = y.session; begins = kept (begun y); written = take at out }
+      → Taken x piece before at y out
   piece_taken room bounded same e =
       let w : answers_to x piece ≡ take at out = ap (λ (z : Standing). z.written) e in
       let n : at ≡ length (answers_to x piece) = sym (ap length w ∙ length-take-le at out room) in
       record {
         turn = record {
           session = sym (ap (λ (z : Standing). z.session) e);
-          begins = keep_first bytes count count (omega arith) ∙ sym (ap (λ (z : Standing). z.begins) e);
+          begins = keep_first y.bytes y.count y.count (omega arith) ∙ sym (ap (λ (z : Standing). z.begins) e);
         };
         written = sym (take-append-drop at out) ∙ ap (λ (l : List ℕ). l ++ drop at out) (sym w) ∙ ap (λ (l : List ℕ). answers_to x piece ++ l) same
             ∙ ap (λ (k : ℕ). answers_to x piece ++ drop k before) n;

@@ -7,13 +7,14 @@ ghost use Rattle.std.specs.Prelude.{◌≡◌, ◌||◌, ◌==◌, ◌++◌, ◌
 ghost use Rattle.std.proofs.Math.Seq.{paste};
 ghost use Rattle.calls.specs.Answers.{numbers_of};
 ghost use Rattle.wire.specs.Format.{line_read};
-ghost use Rattle.stream.specs.Session.{line_decision};
+ghost use Rattle.table.specs.Table.{changed};
+ghost use Rattle.stream.specs.Session.{session, line_decision, replied};
 ghost use Rattle.stream.specs.Input.{output_line, kept_width, kept, output_width};
 ghost use Rattle.stream_line_code.specs.Feeds.{NoFeed, LineEnd, Split};
 
 use calls::{Answer, Numbers, Refusal, Request};
-use line::Decision;
 use stream::{KEPT_WIDTH, Session};
+use table::{PLACES, Table};
 
 // An output line with its line feed.
 pub const OUTPUT_WIDTH: usize = wire_code::ANSWER_WIDTH + 1;
@@ -93,16 +94,33 @@ pub fn read_on(bytes: &mut [u8], count: usize, part: &[u8]) -> Option<Request>
     wire_code::read_line(&bytes[..n])
 }
 
-// ---- what is decided of it
+// ---- its answer
 
-// What is decided of a line that was read: the session is lent, and what changes in its table is part of the decision.
-pub fn decide_line(s: &Session, q: Option<Request>) -> Decision
-    ensures { result ≡ line_decision s.now q }
+// What is decided of a line that was read, and carried out: the table is lent, and searched and changed where it stands. An unreadable line changes
+// nothing.
+#[tactic(auto, unfolding(stream::specs::Session::line_decision))]
+fn carry_out_line(opened: bool, t: &mut Table, q: Option<Request>) -> Answer
+    ensures answer { result ≡ (line_decision (session opened t.old) q).answer }
+    ensures table { t.new ≡ changed t.old (line_decision (session opened t.old) q).change }
 {
-    match q {
-        Some(r) => line_decide_code::decide(s.opened, &s.table, r),
-        None => line_decide_code::refuse(Refusal::BadLine),
-    }
+    let Some(r) = q else {
+        return Err(Refusal::BadLine);
+    };
+    let d = line_decide_code::decide(opened, t, r);
+    // The table has its places, so that it has the one that the change needs.
+    prove!(t.trains[..].len() == PLACES);
+    table_code::carry_out(t, d.change);
+    d.answer
+}
+
+// Answers a line that was read, in the session, which is lent. Answer 0 is acceptance: from then on the session is open.
+pub fn answer_line(s: &mut Session, q: Option<Request>) -> Numbers
+    ensures answer { result ≡ (replied s.old (line_decision s.old q)).answer }
+    ensures session { s.new ≡ (replied s.old (line_decision s.old q)).session }
+{
+    let answer = calls_code::numbers_of(carry_out_line(s.opened, &mut s.table, q));
+    s.opened |= answer.number == 0;
+    answer
 }
 
 // ---- its output line
@@ -114,15 +132,4 @@ pub fn put_line(out: &mut [u8], at: usize, a: Numbers)
 {
     wire_code::render(a, out, at);
     out[at + wire_code::ANSWER_WIDTH] = b'\n';
-}
-
-// Writes the output line of an answer into out, from place `at` on, and tells whether the session is open from then on: answer 0 is
-// acceptance.
-pub fn put_answer(out: &mut [u8], at: usize, a: Answer, opened: bool) -> bool
-    requires { at + output_width ≤ length out.old }
-    ensures { (out.new ≡ paste out.old at (output_line (numbers_of a)) output_width) × (result ≡ (opened || eqb (numbers_of a).number 0)) }
-{
-    let n = calls_code::numbers_of(a);
-    put_line(out, at, n);
-    opened || n.number == 0
 }

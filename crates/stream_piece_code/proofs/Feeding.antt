@@ -1,85 +1,72 @@
--- Laws of a piece that is taken line by line, from place to place of the loop in `feed_all`. Assumes nothing.
-use Prim.Native.Nat.{ℕ, ◌+◌, ◌-◌, ◌*◌, ◌≤◌, ◌<◌}
-use native.Mathlib.Omega.{arith}
-use mathlib.Core.Path.{◌≡◌, sym, ap, ◌∙◌}
-use mathlib.Core.Bool.{true}
-use mathlib.Core.List.{List, [], ◌++◌}
-use lib.ListN.{length, take, drop}
-use lib.Seq.{drop-length, take-take, paste}
-use Rattle.calls.specs.Answers.{numbers_of}
-use Rattle.table.specs.Table.{places}
-use Rattle.line.specs.declared.Decision.{Decision}
-use Rattle.wire.specs.Format.{line_read}
+-- Laws of a piece that is taken line by line, as the loop in `feed_all` takes it. Assumes nothing.
+use Rattle.std.proofs.Common.{◌≡◌, ℕ, ◌+◌, ◌*◌, ◌≤◌, min, List, [], ◌∷◌, ◌++◌, length, take, drop, sym, ap, ◌∙◌, arith, append-nil, length-append}
+use Rattle.std.proofs.Math.Seq.{paste, take-take}
 use Rattle.stream.specs.declared.Session.{Session}
 use Rattle.stream.specs.declared.Stream.{Stream}
-use Rattle.stream.specs.Session.{line_decision, replied}
+use Rattle.stream.specs.declared.Reply.{Reply}
+use Rattle.stream.specs.Session.{answered}
 use Rattle.stream.specs.Input.{output_line, begun, kept_width, kept, output_width, Taken}
-use Rattle.stream.proofs.Bytes.{output_all, output_front, output_back, same_further}
-use Rattle.stream.proofs.Lines.{Standing, standing, standing_byte, standing_kept, standing_end, line_taken, piece_taken}
-use Rattle.stream_line_code.specs.Feeds.{LineEnd}
-use Rattle.stream_line_code.proofs.Feeds.{part_taken}
+use Rattle.stream.proofs.Bytes.{keep_first, output_all, output_front, output_back, same_further}
+use Rattle.stream.proofs.Lines.{Standing, standing, standing_kept, standing_end, standing_bytes, line_taken, piece_taken}
+use Rattle.stream_line_code.specs.Feeds.{NoFeed, Split}
 
--- a line that has begun with `count` bytes, and goes on from place i to place e of the piece
-abbrev pub line_from : List ℕ → ℕ → List ℕ → ℕ → ℕ → List ℕ
-line_from bytes count piece i e = take count bytes ++ take (e - i) (drop i piece)
+module _ (x : Stream) (piece before : List ℕ) where
+  -- Before what is left of the piece: `at` bytes of out are written, and the others are as before. What is still to come leaves the stream y
+  -- where the whole piece leaves x.
+  pub record Feeding (y : Stream) (out : List ℕ) (at : ℕ) (left : List ℕ) : Type 0 where
+    pub room : at + output_width * length left ≤ length out
+    pub size : length out ≡ length before
+    pub line : length y.bytes ≡ kept_width
+    pub bounded : y.count ≤ kept_width
+    pub others : drop at out ≡ drop at before
+    pub stands : standing x.session (begun x) [] piece ≡ standing y.session (begun y) (take at out) left
 
--- Before the line from place i on, which ends at place e: `at` bytes of out are written, an output line for a byte at most, and the others
--- are as before. What is still to come leaves the session where the whole piece leaves it.
-pub record Feeding (piece before : List ℕ) (first : Standing) (out : List ℕ) (s : Session) (bytes : List ℕ) (count at i e : ℕ) : Type 0 where
-  pub end : LineEnd piece i e
-  pub room : at ≤ output_width * i
-  pub size : length out ≡ length before
-  pub line : length bytes ≡ kept_width
-  pub bounded : count ≤ kept_width
-  pub trains : length s.table.trains ≡ places
-  pub others : drop at out ≡ drop at before
-  pub stands : first ≡ standing s (take count bytes) (take at out) (drop i piece)
+  -- at first no more bytes of the line that has begun are counted than are kept
+  pub begins : (n : ℕ) → n ≡ min x.count kept_width
+      → standing x.session (begun x) [] piece ≡ standing x.session (take n x.bytes) [] piece
+  begins n e =
+      sym (standing_kept x.session (begun x) [] piece)
+      ∙ ap (λ (g : List ℕ). standing x.session g [] piece) (sym (keep_first x.bytes x.count n e))
 
-module _ (piece before : List ℕ) (first : Standing) (out : List ℕ) (s : Session) (bytes : List ℕ) (count at i e : ℕ) (all : output_width * length piece ≤ length before) (v : Feeding piece before first out s bytes count at i e) where
-  abbrev line : List ℕ
-  line = line_from bytes count piece i e
+  module _ (y : Stream) (out : List ℕ) (at : ℕ) (left : List ℕ) (v : Feeding y out at left) where
+    -- there is room for the output line of a line
+    pub line_room : (line rest : List ℕ) → Split left line rest → at + output_width + output_width * length rest ≤ length out
+    line_room line rest s = omega (arith, v.room, ap length s.all, length-append line (10 ∷ rest))
 
-  module _ (more : e < length piece) where
-    -- there is room for its output line
-    pub line_room : at + output_width ≤ length out
-    line_room = omega (arith, v.room, v.size, v.end.from)
-
-    -- it is answered, its output line is written, and z is the session after it
-    pub line_fed : (d : Decision) → d ≡ line_decision s (line_read line) → (now : List ℕ) → now ≡ paste out at (output_line (numbers_of d.answer)) output_width
-        → (z : Session) → z ≡ (replied s d).session → length z.table.trains ≡ places
-        → (bytes₂ : List ℕ) → length bytes₂ ≡ kept_width → (f : ℕ) → LineEnd piece (e + 1) f
-        → Feeding piece before first now z bytes₂ 0 (at + output_width) (e + 1) f
-    line_fed d decided now written z after trains bytes₂ long f end =
-        let a = numbers_of d.answer in
+    -- it is answered, its output line is written, and z is the stream after it
+    pub line_fed : (line rest : List ℕ) → Split left line rest → (r : Reply) → r ≡ answered y.session (begun y ++ line)
+        → (now : List ℕ) → now ≡ paste out at (output_line r.answer) output_width
+        → (z : Stream) → z.session ≡ r.session → z.count ≡ 0 → length z.bytes ≡ kept_width → Feeding z now (at + output_width) rest
+    line_fed line rest s r replies now written z after none size =
+        let w = take at out in
+        let room : at + output_width ≤ length out = omega (arith, line_room line rest s) in
+        let whole = ap length written ∙ output_all out at r.answer room in
         record {
-          end = end;
-          room = omega (arith, v.room, v.end.from);
-          size = ap length written ∙ output_all out at a line_room ∙ v.size;
-          line = long;
+          room = omega (arith, line_room line rest s, whole);
+          size = whole ∙ v.size;
+          line = size;
           bounded = omega arith;
-          trains = trains;
-          others = ap (drop (at + output_width)) written ∙ output_back out at a line_room ∙ same_further output_width at out before v.others;
+          others = ap (drop (at + output_width)) written ∙ output_back out at r.answer room ∙ same_further output_width at out before v.others;
           stands =
               v.stands
-              ∙ part_taken (λ g. standing s g (take at out)) (λ g. standing_byte s g (take at out)) piece (take count bytes) i e v.end
-              ∙ line_taken s line (take at out) piece e more d _ (v.end.feed more) decided (ap (take (at + output_width)) written ∙ output_front out at a line_room)
-              ∙ ap (λ (q : Session). standing q [] (take (at + output_width) now) (drop (e + 1) piece)) (sym after);
+              ∙ ap (standing y.session (begun y) w) s.all
+              ∙ standing_bytes y.session (begun y) w line (10 ∷ rest) (λ k h. s.none k (omega arith) h)
+              ∙ line_taken y.session (begun y ++ line) w rest r _ replies (ap (take (at + output_width)) written ∙ output_front out at r.answer room)
+              ∙ ap (λ (q : Session). standing q [] (take (at + output_width) now) rest) (sym after)
+              ∙ ap (λ (n : ℕ). standing z.session (take n z.bytes) (take (at + output_width) now) rest) (sym none);
         }
 
-  -- no line feed is left: the rest is kept
-  pub piece_fed : (x : Stream) → first ≡ standing x.session (kept (begun x)) [] piece → e ≡ length piece
-      → (bytes₂ : List ℕ) (count₂ : ℕ) → take count₂ bytes₂ ≡ kept line → count₂ ≤ kept_width
-      → Taken x piece before (record { taken = true; stream = record { session = s; bytes = bytes₂; count = count₂ }; count = at }) out
-  piece_fed x began end bytes₂ count₂ rest bounded =
-      let w = take at out in
-      let none : drop e piece ≡ [] = ap (λ (n : ℕ). drop n piece) end ∙ drop-length piece in
-      let begins : kept line ≡ kept (take count₂ bytes₂) = sym (ap kept rest ∙ take-take kept_width kept_width line (omega arith)) in
-      let taken =
-      sym (standing_kept x.session (begun x) [] piece)
-      ∙ sym began
-      ∙ v.stands
-      ∙ part_taken (λ g. standing s g w) (λ g. standing_byte s g w) piece (take count bytes) i e v.end
-      ∙ ap (standing s line w) none
-      ∙ standing_end s line w
-      ∙ ap (λ (l : List ℕ). record { session = s; begins = l; written = w }) begins in
-      piece_taken x piece before out bytes₂ s count₂ at (omega (arith, v.room, v.size, v.end.from, v.end.within)) bounded v.others taken
+    -- no line feed is left: the rest is kept, and z is the stream after it
+    pub piece_fed : NoFeed left 0 (length left) → (z : Stream) → z.session ≡ y.session → begun z ≡ kept (begun y ++ left) → z.count ≤ kept_width
+        → Taken x piece before at z out
+    piece_fed none z same rest bounded =
+        let w = take at out in
+        let g = begun y ++ left in
+        let kept_so : kept g ≡ kept (begun z) = sym (ap kept rest ∙ take-take kept_width kept_width g (omega arith)) in
+        piece_taken x piece before out z at (omega (arith, v.room)) bounded v.others
+        (v.stands
+        ∙ ap (standing y.session (begun y) w) (sym (append-nil left))
+        ∙ standing_bytes y.session (begun y) w left [] (λ k h. none k (omega arith) h)
+        ∙ standing_end y.session g w
+        ∙ ap (λ (q : Session). record { session = q; begins = kept g; written = w }) (sym same)
+        ∙ ap (λ (l : List ℕ). record { session = z.session; begins = l; written = w }) kept_so)

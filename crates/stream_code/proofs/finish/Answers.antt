@@ -1,33 +1,33 @@
 -- `stream_code::finish` meets its contract.
-use native.Mathlib.Omega.{arith}
-use mathlib.Core.Path.{◌≡◌, refl, sym, ap, ◌∙◌}
-use lib.ListN.{length}
+use Rattle.std.proofs.Common.{◌≡◌, ℕ, List, length, rules, arith, refl, sym, ap, ◌∙◌}
 use borrow.Author.Tests.{le-leb, lt-leb}
-use borrow.Author.Rules.{rules}
 use Rattle.calls.specs.Answers.{numbers}
-use Rattle.stream.specs.Input.{output_line, last_answer, begun, output_width}
+use Rattle.stream.specs.declared.Stream.{Stream}
+use Rattle.stream.specs.Input.{output_line, last_answer, begun, kept_width, output_width}
 use Rattle.stream.proofs.Bytes.{output_long, output_first, none_begun, line_begun}
 use Rattle.stream_code.proofs.finish.Goals as goal
 
+-- a line that has begun has this answer
+last_of : (x : Stream) → length x.bytes ≡ kept_width → (x.count ≡ 0 → ⊥) → last_answer (begun x) ≡ output_line (numbers 1 0 0 0)
+last_of x size begins = line_begun x.bytes x.count (omega arith) begins
+
 pub returns-then-x-eq0 : goal.returns-then-x-eq0
 returns-then-x-eq0 c =
-    let x = c.args.x in
+    let x = c.args.x.now in
     let e = none_begun x.bytes x.count c.if-x-eq0.true in
     record { taken = rw e (sym (le-leb 0 (length c.args.out.now) (omega arith))); written = rw e refl; count = rw e refl }
 
 pub returns-then-out-lt-OUTPUT_WIDTH : goal.returns-then-out-lt-OUTPUT_WIDTH
 returns-then-out-lt-OUTPUT_WIDTH c =
-    let n = (let long : (c.args.x.count ≡ 0 → ⊥) → length (last_answer (begun c.args.x)) ≡ output_width = λ n. ap length ((let last : (c.args.x.count ≡ 0 → ⊥) → last_answer (begun c.args.x) ≡ output_line (numbers 1 0 0 0) = λ n. line_begun c.args.x.bytes c.args.x.count (search rules) n in last) n) ∙ output_long (numbers 1 0 0 0) in long) c.if-x-eq0.false in
-    record { taken = sym (lt-leb (length (last_answer (begun c.args.x))) (length c.args.out.now) (omega arith)); written = refl; count = refl }
+    let last = last_of c.args.x.now (search rules) c.if-x-eq0.false in
+    record { taken = rw last (sym (lt-leb _ _ (omega (arith, output_long (numbers 1 0 0 0))))); written = refl; count = tt }
 
 pub returns : goal.returns
 returns c =
-    let begins = c.if-x-eq0.false in
-    let n = (let long : (c.args.x.count ≡ 0 → ⊥) → length (last_answer (begun c.args.x)) ≡ output_width = λ n. ap length ((let last : (c.args.x.count ≡ 0 → ⊥) → last_answer (begun c.args.x) ≡ output_line (numbers 1 0 0 0) = λ n. line_begun c.args.x.bytes c.args.x.count (search rules) n in last) n) ∙ output_long (numbers 1 0 0 0) in long) begins in
+    let last = last_of c.args.x.now (search rules) c.if-x-eq0.false in
+    let long = output_long (numbers 1 0 0 0) in
     record {
-      taken = sym (le-leb (length (last_answer (begun c.args.x))) (length c.args.out.now) (omega arith));
-      written =
-          rw ((let last : (c.args.x.count ≡ 0 → ⊥) → last_answer (begun c.args.x) ≡ output_line (numbers 1 0 0 0) = λ n. line_begun c.args.x.bytes c.args.x.count (search rules) n in last) begins, ← c.numbers_of.ensures)
-          (c.put_line.ensures ∙ output_first c.args.out.now c.numbers_of.result);
-      count = sym n;
+      taken = rw last (sym (le-leb _ _ (omega (arith, long))));
+      written = rw (last, ← c.numbers_of.ensures) (c.put_line.ensures ∙ output_first c.args.out.now c.numbers_of.result);
+      count = rw last (sym long);
     }
