@@ -3,162 +3,119 @@
 // is written is what `write_line` requires of the bytes that it is given: nothing else writes to standard output.
 #![tactic(auto)]
 
-ghost use Rattle.std.specs.Prelude.{◌≡◌, ◌≤◌, length, IfSome};
+ghost use Rattle.std.specs.Prelude.{◌≡◌, ◌≤◌, IfOk};
 ghost use Rattle.stream.specs.Input.{kept_width};
 ghost use Rattle.desk_line.specs.Desk.{desk_answered};
-ghost use Rattle.desk_line.specs.Columns.{desk_line, desk_width};
+ghost use Rattle.desk_line.specs.Columns.{desk_line};
 ghost use Rattle.desk.specs.Program.{DeskTurn};
 
 use desk_line_code::DESK_WIDTH;
+use std::fmt;
 use std::io::{Print, Read};
 use stream::{Session, Stream};
 
-// What comes of a line: the state after it, and whether its output line was written.
+// Why the desk stops before all is answered.
 #[derive(Clone, Copy)]
-struct Answered {
-    session: Session,
-    written: bool,
+enum Stop {
+    NotRead,
+    NotWritten,
 }
 
-// What comes of a piece of the input: the stream after it, and whether all output lines were written.
-#[derive(Clone, Copy)]
-struct Turned {
-    stream: Stream,
-    written: bool,
+impl fmt::Display for Stop {
+    fn fmt<W: fmt::Write>(&self, f: &mut fmt::Formatter<W>) -> fmt::Result {
+        let what = match self {
+            Stop::NotRead => "standard input cannot be read",
+            Stop::NotWritten => "standard output cannot be written",
+        };
+        write!(f, "desk: {what}; nothing more is answered")
+    }
 }
 
 // Writes the output line of a line. The state and the line are for the contract.
-fn write_line(rt: HostRuntime, s: Session, line: &[u8], bytes: &[u8]) -> bool
+fn write_line(rt: HostRuntime, s: Session, line: &[u8], bytes: &[u8]) -> Result<(), Stop>
     requires { bytes.now ≡ desk_line (desk_answered s line.now).shown }
 {
-    rt.write_all(bytes).is_ok()
+    rt.write_all(bytes).map_err(|_| Stop::NotWritten)
 }
 
-// Answers a line, given without its line feed. `out` is an output line. It is not written where one before it could not be: no line may be missing
-// between two that are.
+// Answers a line, given without its line feed, and gives the state after it. `out` is an output line.
 fn take_line(
     rt: HostRuntime,
     s: Session,
     line: &[u8],
-    out: &mut [u8],
-    all_written: bool,
-) -> Answered
-    requires { length out.old ≡ desk_width }
-    ensures { result.session ≡ (desk_answered s line.now).session }
+    out: &mut [u8; DESK_WIDTH],
+) -> Result<Session, Stop>
+    ensures { IfOk result (λ z. z ≡ (desk_answered s line.now).session) }
 {
     let r = desk_line_code::answer(s, line);
-    let shown = r.shown;
-    let session = r.session;
-    desk_line_code::render(shown, out);
-    if !all_written {
-        return Answered {
-            session,
-            written: false,
-        };
-    }
-    let written = write_line(rt, s, line, out);
-    Answered { session, written }
+    desk_line_code::render(r.shown, out);
+    write_line(rt, s, line, out)?;
+    Ok(r.session)
 }
 
-// Answers the lines that a piece ends, each in the state that the one before it left.
-fn take_piece(rt: HostRuntime, x: Stream, piece: &[u8], out: &mut [u8]) -> Turned
-    requires { (x.count ≤ kept_width) × (length out.old ≡ desk_width) }
-    ensures { DeskTurn x piece.now result.stream }
+// Answers the lines that a piece ends, each in the state that the one before it left. Where an output line cannot be written it stops: no line
+// may be missing between two that are.
+fn take_piece(
+    rt: HostRuntime,
+    x: Stream,
+    piece: &[u8],
+    out: &mut [u8; DESK_WIDTH],
+) -> Result<Stream, Stop>
+    requires { x.count ≤ kept_width }
+    ensures { IfOk result (λ y. DeskTurn x piece.now y) }
 {
-    let mut session = x.session;
-    let mut bytes = x.bytes;
-    let mut count = x.count;
-    let mut written = true;
-    let mut from: usize = 0;
-    let mut to = stream_line_code::line_end(piece, 0);
-    while to < piece.len() {
-        let n = stream_line_code::push_all(&mut bytes, count, &piece[from..to]);
-        let a = take_line(rt, session, &bytes[..n], out, written);
-        session = a.session;
-        written = a.written;
-        count = 0;
-        from = to + 1;
-        to = stream_line_code::line_end(piece, from);
+    let Stream {
+        mut session,
+        mut bytes,
+        mut count,
+    } = x;
+    for b in piece {
+        if *b == b'\n' {
+            session = take_line(rt, session, &bytes[..count], out)?;
+            count = 0;
+        } else {
+            count = stream_line_code::push_all(&mut bytes, count, &[*b]);
+        }
     }
-    count = stream_line_code::push_all(&mut bytes, count, &piece[from..to]);
-    Turned {
-        stream: Stream {
-            session,
-            bytes,
-            count,
-        },
-        written,
-    }
-}
-
-// Why it stops before all is answered, on standard error: the exit status is 0. Where that cannot be written either, nobody can be told.
-fn tell(rt: HostRuntime, message: &[u8]) {
-    let _told = rt.stderr().write_all(message).is_ok();
-}
-
-fn tell_not_read(rt: HostRuntime) {
-    tell(
-        rt,
-        b"desk: standard input cannot be read; nothing more is answered\n",
-    );
-}
-
-fn tell_not_written(rt: HostRuntime) {
-    tell(
-        rt,
-        b"desk: standard output cannot be written; nothing more is answered\n",
-    );
+    Ok(Stream {
+        session,
+        bytes,
+        count,
+    })
 }
 
 // At the end of the input: a last line without its line feed is answered as an empty one is, with 1.
-fn close(rt: HostRuntime, x: Stream, out: &mut [u8])
-    requires { length out.old ≡ desk_width }
-{
-    if x.count == 0 {
-        return;
+fn close(rt: HostRuntime, x: Stream, out: &mut [u8; DESK_WIDTH]) -> Result<(), Stop> {
+    if x.count != 0 {
+        take_line(rt, x.session, b"", out)?;
     }
-    let session = x.session;
-    let a = take_line(rt, session, b"", out, true);
-    if !a.written {
-        tell_not_written(rt);
-    }
-}
-
-// Reads once, and tells how many bytes stand at the front of the piece then, or nothing where the read failed.
-fn read_once(rt: HostRuntime, piece: &mut [u8]) -> Option<usize>
-    ensures { IfSome result (λ n. n ≤ length piece.new) }
-{
-    rt.stdin().read(piece).ok()
-}
-
-// Reads until the input ends, a read fails or answers cannot be written. A proved loop has to end, and nothing says that an input does. So the
-// loop counts the bytes, up to a number that no run reaches.
-fn run(rt: HostRuntime, piece: &mut [u8], out: &mut [u8])
-    requires { length out.old ≡ desk_width }
-{
-    let mut x = stream_code::start();
-    let mut read: usize = 0;
-    while read <= usize::MAX - piece.len() {
-        let Some(n) = read_once(rt, piece) else {
-            return tell_not_read(rt);
-        };
-        if n == 0 {
-            return close(rt, x, out);
-        }
-        let t = take_piece(rt, x, &piece[..n], out);
-        if !t.written {
-            return tell_not_written(rt);
-        }
-        x = t.stream;
-        read += n;
-    }
+    Ok(())
 }
 
 // The bytes of one read at most.
 const PIECE: usize = 4096;
 
+// Reads until the input ends, a read fails or answers cannot be written. A proved loop has to end, and nothing says that an input does. So the
+// loop counts the bytes, up to a number that no run reaches.
+fn run(rt: HostRuntime, piece: &mut [u8; PIECE], out: &mut [u8; DESK_WIDTH]) -> Result<(), Stop> {
+    let mut x = stream_code::start();
+    let mut read: usize = 0;
+    while read <= usize::MAX - PIECE {
+        let n = rt.stdin().read(piece).map_err(|_| Stop::NotRead)?;
+        if n == 0 {
+            return close(rt, x, out);
+        }
+        x = take_piece(rt, x, &piece[..n], out)?;
+        read += n;
+    }
+    Ok(())
+}
+
+// Why it stops is told on standard error alone: the exit status is 0. Where that cannot be written either, nobody can be told.
 fn main(rt: HostRuntime) {
     let mut piece = [0u8; PIECE];
     let mut out = [0u8; DESK_WIDTH];
-    run(rt, &mut piece, &mut out);
+    if let Err(stop) = run(rt, &mut piece, &mut out) {
+        let _ = rt.eprintln(stop);
+    }
 }

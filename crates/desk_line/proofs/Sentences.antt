@@ -1,17 +1,15 @@
 -- The desk beside the session, line by line: on a line that the session reads it answers as the session does, and its state is the session's. What
 -- previews leave and show is said by code and in the columns of the output.
 -- Assumes nothing.
-use Rattle.std.specs.Prelude.{Option, None, Some, Err}
-use Prim.Native.Nat.{ℕ, ◌+◌, ◌-◌, ◌≤◌}
+use Rattle.std.specs.Prelude.{Option, None, Some, Err, option_and_then}
+use Prim.Native.Nat.{ℕ, ◌+◌, ◌≤◌}
 use mathlib.Core.Bool.{Bool, true, false, cond}
 use mathlib.Core.List.{List, [], ◌∷◌, ◌++◌, append_assoc, append-nil}
 use mathlib.Core.Path.{◌≡◌, refl, ap, ◌∙◌}
 use native.Mathlib.Omega.{arith}
-use lib.Dec.{leb}
+use Rattle.std.proofs.lemmas.Bool.Decides.{nat_tests}
 use lib.ListN.{take, set}
 use lib.Seq.{take_at}
-use borrow.Author.Tests.{ne_eqb, le-leb, leb-true}
-use Rattle.logic.proofs.Tests.{by_test}
 use Rattle.motion.specs.Orders.{order_number, order_cap}
 use Rattle.calls.specs.declared.Opening.{Opening}
 use Rattle.calls.specs.declared.Call.{Call}
@@ -24,7 +22,6 @@ use Rattle.calls.specs.Requests.{at, request, request_of}
 use Rattle.table.specs.declared.Table.{Table}
 use Rattle.table.proofs.Sentences.{zero_record}
 use Rattle.line.specs.declared.Shown.{Shown}
-use Rattle.line.specs.Decide.{refused}
 use Rattle.line.specs.Preview.{previewed}
 use Rattle.wire.specs.Format.{row_in, request_by, line_read, text, text_of, answer_text}
 use Rattle.wire.proofs.RoundTrip.{answer_long}
@@ -32,8 +29,8 @@ use Rattle.stream.specs.declared.Session.{Session}
 use Rattle.stream.specs.Session.{session, line_decision, replied, answered}
 use Rattle.stream.specs.Input.{after}
 use Rattle.desk_line.specs.declared.DeskReply.{DeskReply}
-use Rattle.desk_line.specs.declared.DeskRead.TheVariants.{Made, Tried, Nothing}
-use Rattle.desk_line.specs.Desk.{as_tried, desk_ask, desk_ask_by, desk_read, shown_at, left_at, desk_answered, desk_after}
+use Rattle.desk_line.specs.declared.DeskAsk.TheVariants.{Made, Tried}
+use Rattle.desk_line.specs.Desk.{desk_ask, desk_read, shown_at, left_at, desk_answered, desk_after}
 use Rattle.desk_line.specs.Columns.{desk_line}
 
 -- ---- what a line asks
@@ -41,32 +38,25 @@ use Rattle.desk_line.specs.Columns.{desk_line}
 -- no call of the session has a code from 50 on
 above_50 : (row : List ℕ) → 50 ≤ at row 0 → request_of row ≡ None
 unfolding request_of
-above_50 row h =
-    let other : (c : ℕ) → c ≤ 8 → at row 0 ≡ c → ⊥ = λ c low e. omega arith in
-    rw (ne_eqb (at row 0) 1 (other 1 (omega arith)), ne_eqb (at row 0) 2 (other 2 (omega arith)), ne_eqb (at row 0) 3 (other 3 (omega arith)), ne_eqb (at row 0) 4 (other 4 (omega arith)), ne_eqb (at row 0) 5 (other 5 (omega arith)), ne_eqb (at row 0) 6 (other 6 (omega arith)), ne_eqb (at row 0) 7 (other 7 (omega arith)), ne_eqb (at row 0) 8 (other 8 (omega arith)))
+above_50 row h = grind (arith, nat_tests)
 
 -- a row that the session reads is read as the same request, which is made
-row_made : (row : List ℕ) (r : Request) → request_of row ≡ Some r → desk_ask row ≡ Made r
+row_made : (row : List ℕ) (r : Request) → request_of row ≡ Some r → desk_ask row ≡ Some (Made r)
 unfolding desk_ask
-row_made row r e =
-    by_test (leb 50 (at row 0))
-    (λ high. let z : ◌≡◌ {A = ℕ} 0 1 = cc (above_50 row (leb-true 50 (at row 0) high)) in absurd (omega arith))
-    (λ low. rw (low, e))
+row_made row r e = grind (arith, nat_tests, above_50 row, e)
 
-pub session_read : (l : List ℕ) (r : Request) → line_read l ≡ Some r → desk_read l ≡ Made r
+pub session_read : (l : List ℕ) (r : Request) → line_read l ≡ Some r → desk_read l ≡ Some (Made r)
 unfolding line_read desk_read
 session_read l r = go (row_in l)
   where
-    go : (o : Option (List ℕ)) → request_by o ≡ Some r → desk_ask_by o ≡ Made r
-    go None e = let z : ◌≡◌ {A = ℕ} 0 1 = cc in absurd (omega arith)
+    go : (o : Option (List ℕ)) → request_by o ≡ Some r → option_and_then desk_ask o ≡ Some (Made r)
+    go None e = cc
     go (Some row) e = row_made row r e
 
 -- code 50 + c previews call c
-pub preview_read : (l row : List ℕ) (c : ℕ) (r : Request) → row_in l ≡ Some row → at row 0 ≡ 50 + c → request_of (set row 0 c) ≡ Some r → desk_read l ≡ Tried r
+pub preview_read : (l row : List ℕ) (c : ℕ) (r : Request) → row_in l ≡ Some row → at row 0 ≡ 50 + c → request_of (set row 0 c) ≡ Some r → desk_read l ≡ Some (Tried r)
 unfolding desk_read desk_ask
-preview_read l row c r has code reads =
-    let above : at row 0 - 50 ≡ c = omega arith in
-    ap desk_ask_by has ∙ rw (le-leb 50 (at row 0) (omega arith), above, reads)
+preview_read l row c r has code reads = grind (arith, nat_tests, has, code, reads)
 
 -- ---- beside the session
 
@@ -95,28 +85,20 @@ as_in_the_session s l r reads =
 -- the desk to the session's state.
 not_made : (row : List ℕ) (s : Session) → request_of row ≡ None → left_at s (desk_ask row) ≡ s
 unfolding desk_ask left_at
-not_made row s e = by_test (leb 50 (at row 0)) (λ high. rw high (tried (request_of (set row 0 (at row 0 - 50))))) (λ low. rw (low, e))
-  where
-    tried : (q : Option Request) → left_at s (as_tried q) ≡ s
-    tried (Some r) = refl
-    tried None = refl
+not_made row s e = grind (arith, nat_tests, e)
 
 pub same_state : (s : Session) (l : List ℕ) → (desk_answered s l).session ≡ (answered s l).session
 unfolding line_read line_decision desk_read left_at
 same_state s l = go (row_in l)
   where
-    refuses : (b : Bool) (t : Table) → session b t ≡ (replied (session b t) (refused BadLine)).session
-    refuses true t = refl
-    refuses false t = refl
-
     stays : s ≡ (replied s (line_decision s None)).session
-    stays = refuses s.opened s.table
+    stays = grind (arith, nat_tests)
 
     row_asks : (row : List ℕ) (q : Option Request) → request_of row ≡ q → left_at s (desk_ask row) ≡ (replied s (line_decision s q)).session
     row_asks row (Some r) e = ap (left_at s) (row_made row r e)
     row_asks row None e = not_made row s e ∙ stays
 
-    go : (o : Option (List ℕ)) → left_at s (desk_ask_by o) ≡ (replied s (line_decision s (request_by o))).session
+    go : (o : Option (List ℕ)) → left_at s (option_and_then desk_ask o) ≡ (replied s (line_decision s (request_by o))).session
     go None = stays
     go (Some row) = row_asks row (request_of row) refl
 
@@ -133,33 +115,33 @@ refusal r s = record { shown = record { answer = Err r; train = zero_record }; s
 
 module _ (l : List ℕ) (t : Table) where
   -- 1, in every state
-  pub desk_1 : (s : Session) → desk_read l ≡ Nothing → desk_answered s l ≡ refusal BadLine s
+  pub desk_1 : (s : Session) → desk_read l ≡ None → desk_answered s l ≡ refusal BadLine s
   unfolding shown_at left_at
   desk_1 s e = rw e
 
   -- a preview leaves the state, whatever it is answered
-  pub desk_leaves : (s : Session) (r : Request) → desk_read l ≡ Tried r → (desk_answered s l).session ≡ s
+  pub desk_leaves : (s : Session) (r : Request) → desk_read l ≡ Some (Tried r) → (desk_answered s l).session ≡ s
   unfolding left_at
   desk_leaves s r e = rw e
 
   -- 2: a preview of a call before an accepted opening, whoever calls
-  pub desk_2 : (n : ℕ) (c : Call) → desk_read l ≡ Tried (request n (OnTable c)) → desk_answered (session false t) l ≡ refusal OutOfTurn (session false t)
+  pub desk_2 : (n : ℕ) (c : Call) → desk_read l ≡ Some (Tried (request n (OnTable c))) → desk_answered (session false t) l ≡ refusal OutOfTurn (session false t)
   unfolding shown_at left_at
   desk_2 n c e = rw e
 
   -- after it, it is what document 02, (v), says
-  pub desk_previews : (r : Request) → desk_read l ≡ Tried r → (desk_answered (session true t) l).shown ≡ previewed t r
+  pub desk_previews : (r : Request) → desk_read l ≡ Some (Tried r) → (desk_answered (session true t) l).shown ≡ previewed t r
   unfolding shown_at
   desk_previews r e = rw e
 
   -- and of an opening at any time
-  pub desk_previews_openings : (b : Bool) (n : ℕ) (o : Opening) → desk_read l ≡ Tried (request n (Open o)) → (desk_answered (session b t) l).shown ≡ previewed t (request n (Open o))
+  pub desk_previews_openings : (b : Bool) (n : ℕ) (o : Opening) → desk_read l ≡ Some (Tried (request n (Open o))) → (desk_answered (session b t) l).shown ≡ previewed t (request n (Open o))
   unfolding shown_at
   desk_previews_openings true n o e = rw e
   desk_previews_openings false n o e = rw e
 
   -- a call that is made shows what its preview shows
-  pub desk_shows : (n : ℕ) (c : Call) → desk_read l ≡ Made (request n (OnTable c)) → (desk_answered (session true t) l).shown ≡ previewed t (request n (OnTable c))
+  pub desk_shows : (n : ℕ) (c : Call) → desk_read l ≡ Some (Made (request n (OnTable c))) → (desk_answered (session true t) l).shown ≡ previewed t (request n (OnTable c))
   unfolding shown_at
   desk_shows n c e = rw e
 

@@ -6,12 +6,11 @@ use calls::Request;
 use line::Shown;
 use stream::Session;
 
-// What a line asks: a request that is made, or one that a preview tries. Some lines ask nothing.
+// What a line asks: a request that is made, or one that a preview tries.
 #[derive(Clone, Copy)]
-pub enum DeskRead {
+pub enum DeskAsk {
     Made(Request),
     Tried(Request),
-    Nothing,
 }
 
 // What a line comes to: what is shown of it, and the state after it.

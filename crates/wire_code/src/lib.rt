@@ -11,7 +11,7 @@ use wire::{CALL_COLUMNS, CALL_WIDTH, Scan};
 // The columns of an output line: the answer, and each of its three numbers.
 const CODE: usize = 2;
 
-const NUMBER: usize = 14;
+pub const NUMBER: usize = 14;
 
 // Where these three begin.
 const FIRST: usize = CODE;

@@ -11,5 +11,5 @@ pub returns : goal.returns
 returns c =
     let out = c.args.out.now in
     let room = c.if-out-lt-DESK_WIDTH.false in
-    let e = le-leb desk_width (length out) room in
-    (rw e refl, rw e (line_put out _ _ _ c.args.w _ room c.numbers_of.ensures c.record_numbers.ensures c.render.ensures.1 c.put_record.ensures))
+    rw (le-leb desk_width (length out) room, c.put_record.ensures, c.render.ensures.1, c.record_numbers.ensures, c.numbers_of.ensures)
+    (refl, line_put c.args.w out room)
