@@ -4,8 +4,8 @@
 // writes to standard output.
 #![tactic(auto)]
 
-ghost use Rattle.std.specs.Prelude.{◌≡◌, ◌*◌, ◌≤◌, ◌<◌, length, take, IfSome};
-ghost use Rattle.stream.specs.Input.{last_answer, begun, output_width, answers_to};
+ghost use Rattle.std.specs.Prelude.{◌≡◌, take, option_map};
+ghost use Rattle.stream.specs.Input.{last_answer, begun, answers_to};
 ghost use Rattle.session.specs.Program.{ReadOnce, TookIn, Stopped, Whole, next_after, stop_after_last};
 
 use std::io::{Print, Read};
@@ -21,27 +21,16 @@ enum Stop {
     Full,
 }
 
-// What follows a turn: one more, or the stop.
-#[derive(Clone, Copy)]
-enum Next {
-    More,
-    Done(Stop),
-}
-
-// What comes of a read: the stream after it, how many bytes were read, how many bytes of answers stand at the front of `out`, and whether
-// the read failed.
+// What comes of a read: how many bytes were read, or nothing where it failed; and how many bytes of answers stand at the front of `out`.
 #[derive(Clone, Copy)]
 struct Took {
-    stream: Stream,
-    read: usize,
+    read: Option<usize>,
     answered: usize,
-    failed: bool,
 }
 
-// What comes of all turns: the stream after them, how many bytes were read, and how they stopped.
+// What comes of all turns: how many bytes were read, and how they stopped.
 #[derive(Clone, Copy)]
 struct Ran {
-    stream: Stream,
     read: usize,
     how: Stop,
 }
@@ -53,15 +42,20 @@ struct Closed {
     written: bool,
 }
 
-// What comes of a session: how many bytes were read, how it stopped, whether the input ended, and how many bytes its last answer has. The
-// input may have ended though the last answer could not be written.
+// What comes of a session: how many bytes were read, how it stopped, and, where the input ended, how many bytes its last answer has. The input may
+// have ended though the last answer could not be written.
 #[derive(Clone, Copy)]
 struct Served {
     read: usize,
     how: Stop,
-    ended: bool,
-    last: usize,
+    last: Option<usize>,
 }
+
+// The bytes of one read at most.
+const PIECE: usize = 4096;
+
+// An output line for each byte of a piece: each may be a line feed.
+const OUT: usize = PIECE * stream_line_code::OUTPUT_WIDTH;
 
 // Writes the answers to the lines that a piece ends. The stream and the piece are for the contract.
 fn write_answers(rt: HostRuntime, x: Stream, piece: &[u8], bytes: &[u8]) -> bool
@@ -72,97 +66,65 @@ fn write_answers(rt: HostRuntime, x: Stream, piece: &[u8], bytes: &[u8]) -> bool
 
 // Writes the answer to a last line without its line feed. How reading stopped and the stream are for the contract: a line that has begun is
 // the last one only at the end of the input.
-fn write_last(rt: HostRuntime, how: Stop, x: Stream, bytes: &[u8]) -> bool
-    requires { (how ≡ Stop.Ended) × (bytes.now ≡ last_answer (begun x)) }
+fn write_last(rt: HostRuntime, how: Stop, x: &Stream, bytes: &[u8]) -> bool
+    requires { (how ≡ Stop.Ended) × (bytes.now ≡ last_answer (begun x.now)) }
 {
     rt.write_all(bytes).is_ok()
 }
 
-// Reads once, and tells how many bytes stand at the front of the piece then, or nothing where the read failed.
-fn read_once(rt: HostRuntime, piece: &mut [u8]) -> Option<usize>
-    ensures { IfSome result (λ n. n ≤ length piece.new) }
-{
-    rt.stdin().read(piece).ok()
-}
-
 // Reads once, and answers all lines that are whole by then. `out` has room for every piece, so that each is taken. At the end of the input,
 // and where the read failed, the piece is empty.
-fn take_in(rt: HostRuntime, x: Stream, piece: &mut [u8], out: &mut [u8]) -> Took
-    requires { output_width * length piece.old ≤ length out.old }
-    ensures { ReadOnce x result.failed result.read result.answered result.stream piece.new out.new }
+fn take_in(rt: HostRuntime, x: &mut Stream, piece: &mut [u8; PIECE], out: &mut [u8; OUT]) -> Took
+    ensures { ReadOnce x.old result.read result.answered x.new piece.new out.new }
 {
-    let got = read_once(rt, piece);
-    let n = got.unwrap_or(0);
-    let fed = stream_code::feed(x, &piece[..n], out);
-    let stream = fed.stream;
-    let answered = fed.count;
-    Took {
-        stream,
-        read: n,
-        answered,
-        failed: got.is_none(),
-    }
+    let read = rt.stdin().read(piece).ok();
+    let n = read.unwrap_or(0);
+    let answered = stream_code::feed(x, &piece[..n], out).unwrap_or(0);
+    Took { read, answered }
 }
 
-// What follows a turn that read n bytes. A read that failed is not the end of the input. Apart from the loop, so that a contract says when
-// it stops.
-fn after_turn(failed: bool, n: usize, written: bool) -> Next
-    ensures { result ≡ next_after failed n written }
+// What follows a turn: a stop, or one more. A read that failed is not the end of the input. Apart from the loop, so that a contract says when it
+// stops.
+fn after_turn(read: Option<usize>, written: bool) -> Option<Stop>
+    ensures { result ≡ next_after read written }
 {
-    if failed {
-        return Next::Done(Stop::NotRead);
+    match read {
+        None => Some(Stop::NotRead),
+        Some(0) => Some(Stop::Ended),
+        Some(_) if !written => Some(Stop::NotWritten),
+        Some(_) => None,
     }
-    if n == 0 {
-        return Next::Done(Stop::Ended);
-    }
-    if !written {
-        return Next::Done(Stop::NotWritten);
-    }
-    Next::More
 }
 
 // Reads until the input ends, a read fails or the answers cannot be written. After each read they are written: a train waits at the other
-// end. The stream of before is for the contract of that; the next one is in its place by then, since the compiler would copy it once more
-// across the write. A proved loop has to end, and nothing says that an input does. So the loop counts the bytes, up to a number that no run
-// reaches.
-fn run(rt: HostRuntime, x: Stream, piece: &mut [u8], out: &mut [u8]) -> Ran
-    requires { output_width * length piece.old ≤ length out.old }
-    ensures { TookIn x result.read result.stream × Stopped result.how result.read piece.new }
+// end. The stream of before is for the contract of that: no code reads it, and the compiler does not copy it. A proved loop has to end, and nothing
+// says that an input does. So the loop counts the bytes, up to a number that no run reaches.
+fn run(rt: HostRuntime, x: &mut Stream, piece: &mut [u8; PIECE], out: &mut [u8; OUT]) -> Ran
+    ensures { TookIn x.old result.read x.new × Stopped result.how result.read }
 {
-    let mut y = x;
     let mut read: usize = 0;
-    while read <= usize::MAX - piece.len() {
-        let t = take_in(rt, y, piece, out);
-        let n = t.read;
-        let answered = t.answered;
-        let failed = t.failed;
-        let before = y;
-        y = t.stream;
-        let written = write_answers(rt, before, &piece[..n], &out[..answered]);
+    while read <= usize::MAX - PIECE {
+        let before = *x;
+        let t = take_in(rt, x, piece, out);
+        let n = t.read.unwrap_or(0);
+        let written = write_answers(rt, before, &piece[..n], &out[..t.answered]);
         read += n;
-        let next = after_turn(failed, n, written);
-        if let Next::Done(how) = next {
-            return Ran {
-                stream: y,
-                read,
-                how,
-            };
+        if let Some(how) = after_turn(t.read, written) {
+            return Ran { read, how };
         }
     }
     Ran {
-        stream: y,
         read,
         how: Stop::Full,
     }
 }
 
 // At the end of the input: writes the answer to a last line without its line feed. How reading stopped is for the contract.
-fn close(rt: HostRuntime, how: Stop, x: Stream, out: &mut [u8]) -> Closed
-    requires { (how ≡ Stop.Ended) × (output_width ≤ length out.old) }
-    ensures { take result.last out.new ≡ last_answer (begun x) }
+fn close(rt: HostRuntime, how: Stop, x: &Stream, out: &mut [u8; OUT]) -> Closed
+    requires { how ≡ Stop.Ended }
+    ensures { take result.last out.new ≡ last_answer (begun x.now) }
 {
-    let f = stream_code::finish(x, out);
-    let last = f.count;
+    let last = stream_code::finish(x, out).unwrap_or(0);
     let written = write_last(rt, how, x, &out[..last]);
     Closed { last, written }
 }
@@ -178,69 +140,43 @@ fn after_last(written: bool) -> Stop
     }
 }
 
-// A whole session. Where a read failed, the line that has begun is not answered: its rest may still come. An empty piece would never show
-// more than the end of the input.
-fn serve(rt: HostRuntime, piece: &mut [u8], out: &mut [u8]) -> Served
-    requires { (0 < length piece.old) × (output_width * length piece.old ≤ length out.old) }
-    ensures { Whole result.read result.how result.ended (take result.last out.new) × Stopped result.how result.read piece.new }
+// A whole session. Where a read failed, the line that has begun is not answered: its rest may still come.
+fn serve(rt: HostRuntime, piece: &mut [u8; PIECE], out: &mut [u8; OUT]) -> Served
+    ensures { Whole result.read result.how (option_map (λ n. take n out.new) result.last) × Stopped result.how result.read }
 {
-    let r = run(rt, stream_code::start(), piece, out);
-    let read = r.read;
-    let how = r.how;
+    let mut x = stream_code::start();
+    let Ran { read, how } = run(rt, &mut x, piece, out);
     let Stop::Ended = how else {
         return Served {
             read,
             how,
-            ended: false,
-            last: 0,
+            last: None,
         };
     };
-    let x = r.stream;
-    let c = close(rt, how, x, out);
-    let last = c.last;
-    let written = c.written;
+    let Closed { last, written } = close(rt, how, &x, out);
     Served {
         read,
         how: after_last(written),
-        ended: true,
-        last,
+        last: Some(last),
     }
 }
 
-// Says on standard error why the session stopped before all was answered. Nothing else tells it: the exit status is 0.
+// Says on standard error why the session stopped before all was answered. Nothing else tells it: the exit status is 0. Where standard error cannot
+// be written either, nobody can be told.
 fn tell(rt: HostRuntime, how: Stop) {
-    match how {
-        Stop::Ended => {}
-        Stop::NotRead => say(
-            rt,
-            b"session: standard input cannot be read; nothing more is answered\n",
-        ),
-        Stop::NotWritten => say(
-            rt,
+    let message: &[u8] = match how {
+        Stop::Ended => return,
+        Stop::NotRead => b"session: standard input cannot be read; nothing more is answered\n",
+        Stop::NotWritten =>
             b"session: standard output cannot be written; nothing more is answered\n",
-        ),
-        Stop::Full => say(
-            rt,
-            b"session: no more bytes can be counted; nothing more is answered\n",
-        ),
-    }
-}
-
-// Where standard error cannot be written either, nobody can be told.
-fn say(rt: HostRuntime, message: &[u8]) {
+        Stop::Full => b"session: no more bytes can be counted; nothing more is answered\n",
+    };
     let _told = rt.stderr().write_all(message).is_ok();
 }
 
-// The bytes of one read at most.
-const PIECE: usize = 4096;
-
-// An output line for each byte of a piece: each may be a line feed.
-const OUT: usize = PIECE * stream_line_code::OUTPUT_WIDTH;
-
 fn main(rt: HostRuntime) {
-    let mut piece = [0u8; PIECE];
-    let mut out = [0u8; OUT];
+    let mut piece = [0; PIECE];
+    let mut out = [0; OUT];
     let served = serve(rt, &mut piece, &mut out);
-    let how = served.how;
-    tell(rt, how);
+    tell(rt, served.how);
 }

@@ -1,21 +1,16 @@
 -- Laws of a session, byte by byte. Assumes nothing.
-use Rattle.std.specs.Prelude.{Option, Some, None}
+use Rattle.std.specs.Prelude.{Option}
 use Rattle.calls.specs.declared.Request.{Request}
-use Prim.Native.Nat.{ℕ, zero, suc, ◌+◌, ◌≤◌, ◌<◌}
+use Prim.Native.Nat.{ℕ, zero, suc, ◌≤◌, ◌<◌}
 use native.Mathlib.Omega.{arith}
 use mathlib.Core.Path.{◌≡◌, refl, sym, ap, ◌∙◌}
 use mathlib.Core.List.{List, [], ◌∷◌, ◌++◌, append_assoc, append-nil}
 use lib.Dec.{eqb, leb}
 use lib.ListN.{length, take, drop, get_or, length-take, take-append-drop}
-use lib.Seq.{take_all, take-take, length-take-le, drop-cons}
-use native.Mathlib.Numerals.{add-one}
+use lib.Seq.{take_all, take-take, length-take-le}
 use borrow.Author.Tests.{eq-eqb, ne_eqb, eqb-true, eqb-false, leb-true, leb-false}
 use Rattle.logic.proofs.Tests.{by_test}
 use Rattle.wire.specs.Format.{call_width, row_in, request_by, line_read}
-use Rattle.calls.specs.Answers.{numbers_of}
-use Rattle.table.specs.Table.{places, Fits}
-use Rattle.line.specs.declared.Decision.{Decision}
-use Rattle.line.proofs.Steps.{decided_fits}
 use Rattle.stream.specs.declared.Session.{Session}
 use Rattle.stream.specs.declared.Reply.{Reply}
 use Rattle.stream.specs.declared.Stream.{Stream}
