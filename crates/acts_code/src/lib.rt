@@ -2,10 +2,9 @@
 // down".
 #![tactic(auto)]
 
-ghost use Rattle.std.specs.Prelude.{◌≡◌, true, ◌+◌, ◌^◌, ◌<◌};
+ghost use Rattle.std.specs.Prelude.{◌≡◌, ◌+◌, ◌^◌, ◌<◌};
 ghost use Rattle.train.specs.Record.{authorised};
-ghost use Rattle.train.specs.Report.{computable};
-ghost use Rattle.acts.specs.Acts.{request_in_range, is_old, granted, called_back, call_back_allowed, holding, may_leave};
+ghost use Rattle.acts.specs.Acts.{request_in_range, is_old, granted, call_back_allowed, holding, may_leave};
 ghost use Rattle.acts.specs.Decide.{reporting, extending, calling_back, decide as decision, verdict};
 
 use acts::Verdict;
@@ -50,20 +49,6 @@ fn call_back_allowed(x: Train, place: u64) -> bool
     ensures { result ≡ call_back_allowed x place }
 {
     train_code::is_computable(x) && ranges::in_range(x.motion.head, x.authority.end, place)
-}
-
-// From the reach on, the end moves at once. Short of it the order already given may carry the train past the place: the call back is pending.
-#[tactic(auto, unfolding(acts::specs::Acts::called_back))]
-fn call_back_to(x: Train, place: u64) -> Train
-    requires { computable x ≡ true }
-    ensures { result ≡ called_back x place }
-{
-    let authority = if place < train_code::reach_of(x) {
-        train_code::want(x.authority, place)
-    } else {
-        train_code::ending_at(x.authority, place)
-    };
-    Train { authority, ..x }
 }
 
 // Hold and lift: the mark of a hold alone, which the next report reads. A penalty brake stays on.
@@ -119,15 +104,21 @@ fn extend(s: Settings, limit: Limit, x: Train, q: Extension) -> Verdict
     Ok((Values::Extended(y.authority.end, false), y))
 }
 
-// Call back: the end becomes a place from reach to end, or one from the head on is wanted.
-#[tactic(auto, using(crate::proofs::Rules::calling_back))]
+// Call back: from the reach on, the end moves to the place at once. Short of it the order already given may carry the train past the place: the
+// call back is pending.
+#[tactic(auto, using(crate::proofs::Rules::calling_back), unfolding(acts::specs::Acts::called_back))]
 fn call_back(x: Train, place: u64) -> Verdict
     ensures { result ≡ verdict (calling_back x place) }
 {
     if !call_back_allowed(x, place) {
         return Err(Refusal::BadPlace);
     }
-    Ok((Values::Zeros, call_back_to(x, place)))
+    let authority = if place < train_code::reach_of(x) {
+        train_code::want(x.authority, place)
+    } else {
+        train_code::ending_at(x.authority, place)
+    };
+    Ok((Values::Zeros, Train { authority, ..x }))
 }
 
 // An act of the train x with this limit. Hold is the emergency message, lift its withdrawal: both act from the next report on.

@@ -9,7 +9,7 @@ ghost use Rattle.motion.specs.Bounds.{Bounded};
 ghost use Rattle.train.specs.Ranges.{settings_in_range, settings_of};
 ghost use Rattle.train.specs.Record.{figures_for, authority_to, fresh_authority, ending_at, wanting, fresh_marks, entering};
 ghost use Rattle.train.specs.Track.{steps_of, limit_behind, within_limit};
-ghost use Rattle.train.specs.Report.{worst_of, reach_of, allowed, motion_after, moves, must_brake, order_after, is_penalty, settled, ordered, reported, computable, report_allowed};
+ghost use Rattle.train.specs.Report.{worst_of, reach_of, moves, must_brake, order_after, is_penalty, settled, ordered, reported, computable, report_allowed};
 ghost use Rattle.train_code.specs.Report.{with_reach};
 
 use brake::Figures;
@@ -222,36 +222,31 @@ pub fn reach_of(x: Train) -> u64
     vehicle_of(x).reach_of(x.order)
 }
 
-// Head and speed are judged each by itself: no further back than the last head, no worse than the worst case.
-#[tactic(auto, unfolding(train::specs::Report::allowed))]
-fn is_allowed(x: Train, r: Reading) -> bool
-    requires { computable x ≡ true }
-    ensures { result ≡ allowed x r }
-{
-    let worst = worst_of(x);
-    x.motion.head <= r.head && r.head <= worst.head && r.speed <= worst.speed
-}
-
-// The motion after a report: the level is the one found after the last cycle, whatever was reported.
-fn motion_after(x: Train, r: Reading) -> Motion
-    requires { computable x ≡ true }
-    ensures { result ≡ motion_after x r }
+// The motion after a report, from the worst case of the last order: the level is the one found after the last cycle, whatever was reported.
+fn motion_after(worst: Motion, r: Reading) -> Motion
+    ensures { result ≡ record worst { head = r.head; speed = r.speed } }
 {
     Motion {
         head: r.head,
         speed: r.speed,
-        level: worst_of(x).level,
+        ..worst
     }
 }
 
-// Refusal 9. A record that motion cannot be worked out from is refused too: no list of calls leaves one.
-#[tactic(auto, unfolding(train::specs::Report::report_allowed))]
+// Refusal 9. Head and speed are judged each by itself: no further back than the last head, no worse than the worst case. A record that motion
+// cannot be worked out from is refused too: no list of calls leaves one.
+#[tactic(auto, unfolding(train::specs::Report::report_allowed, train::specs::Report::allowed))]
 pub fn report_allowed(s: Settings, x: Train, r: Reading) -> bool
     ensures { result ≡ report_allowed s x r }
 {
-    is_computable(x)
-        && is_allowed(x, r)
-        && motion_code::in_bounds(x.figures, motion_after(x, r), s.maxima.traction)
+    if !is_computable(x) {
+        return false;
+    }
+    let worst = worst_of(x);
+    x.motion.head <= r.head
+        && r.head <= worst.head
+        && r.speed <= worst.speed
+        && motion_code::in_bounds(x.figures, motion_after(worst, r), s.maxima.traction)
 }
 
 // Whether a train moves, that is, does not stand.
@@ -301,7 +296,7 @@ pub fn report_on(s: Settings, x: Train, r: Reading) -> Reported
     requires { report_allowed s x r ≡ true }
     ensures { result ≡ with_reach (reported s x r) }
 {
-    let m = motion_after(x, r);
+    let m = motion_after(worst_of(x), r);
     let given = order_after(s, x, m);
     Reported {
         train: with_order(x, m, given),
