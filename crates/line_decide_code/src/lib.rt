@@ -68,7 +68,7 @@ fn decide_enter(t: &Table, e: Entry) -> Decision
 }
 
 // An act of the train with this id.
-#[tactic(auto, unfolding(line::specs::Decide::decide_on, line::specs::Decide::act_decision, calls::specs::Checks::first_of))]
+#[tactic(auto, unfolding(line::specs::Decide::decide_on))]
 fn decide_own(t: &Table, id: u64, a: Act) -> Decision
     ensures { result ≡ decide_on t.now (Ask.OnTable (Call.Own id a)) }
 {

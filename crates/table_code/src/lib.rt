@@ -1,4 +1,4 @@
-// Finds trains in the table, and changes it. The table is lent: it is searched and changed where it stands, and none is copied.
+// Finds trains in the table, and changes it. The table is lent: it is searched and changed where it stands.
 #![tactic(auto)]
 
 ghost use Rattle.std.specs.Prelude.{◌≡◌, ◌≤◌, ◌<◌, IfSome, length};
@@ -59,16 +59,16 @@ pub fn place_of(t: &Table, id: u64) -> Option<usize>
     on_line(t).iter().position(|x| x.id == id)
 }
 
-// The limit at place i: the line end for the first train, and for any other what the train ahead leaves.
+// The limit at place i: the line end for the first train, and for any other what the train ahead leaves it.
 #[tactic(auto, unfolding(table::specs::Table::ahead_of, train::specs::Track::limit_behind))]
 pub fn limit_at(t: &Table, i: usize) -> Limit
     requires { i ≤ places }
     ensures { result ≡ limit_at t.now i }
 {
-    if i == 0 {
-        return Some(t.settings.end);
+    match i.checked_sub(1) {
+        None => Some(t.settings.end),
+        Some(ahead) => train_code::limit_behind(t.settings, t.trains[ahead]),
     }
-    train_code::limit_behind(t.settings, t.trains[i - 1])
 }
 
 // ---- changes

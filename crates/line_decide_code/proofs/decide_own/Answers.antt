@@ -9,3 +9,10 @@ returns-in-Err c =
     c.refuse-in-Err.ensures
     ∙ sym (own_found a.t.now a.id c.in-Some.i _ _ (record { place = sym c.place_of.ensures.place ∙ c.in-Some.is; limited = c.limit_at.ensures; here = refl }) a.a
     ∙ ap (placed _) (sym c.decide.ensures ∙ c.in-Err.is))
+
+pub returns-in-Ok : goal.returns-in-Ok
+returns-in-Ok c =
+    let a = c.args in
+    c.accept.ensures
+    ∙ sym (own_found a.t.now a.id c.in-Some.i _ _ (record { place = sym c.place_of.ensures.place ∙ c.in-Some.is; limited = c.limit_at.ensures; here = refl }) a.a
+    ∙ ap (placed _) (sym c.decide.ensures ∙ c.in-Ok.is))
