@@ -1,4 +1,5 @@
 // Sets answers out in numbers, and reads requests from numbers: document 01, "What is turned down" and "The session program"; document 02, (iii).
+// Functions, and no `From`: an impl would stand in `calls`, which has no code.
 #![tactic(auto)]
 
 ghost use Rattle.std.specs.Prelude.{◌≡◌};

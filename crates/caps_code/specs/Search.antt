@@ -21,7 +21,7 @@ pub record CapsAllowed (k : Figures) (l : Maxima) (v n : ℕ) : Type 0 where
   pub keep : (c : ℕ) → c < n → drive_speed k v c ≤ l.ceiling
   pub exceed : (c : ℕ) → n ≤ c → c ≤ l.traction → l.ceiling < drive_speed k v c
 
--- how many caps there are, counted from 0, up to the greatest one; where there is none, none
+-- how many caps there are from 0 to the greatest one: none where there is no greatest
 abbrev pub caps_up_to : Option ℕ → ℕ
 caps_up_to None = 0
 caps_up_to (Some most) = most + 1

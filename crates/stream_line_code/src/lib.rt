@@ -41,10 +41,7 @@ fn past_blocks(piece: &[u8]) -> usize
     ensures { (result ≤ length piece.now) × NoFeed piece.now 0 result }
 {
     let (blocks, _) = piece.as_chunks::<BLOCK>();
-    let past = blocks
-        .iter()
-        .position(|block| has_feed(block))
-        .unwrap_or(blocks.len());
+    let past = blocks.iter().position(has_feed).unwrap_or(blocks.len());
     past * BLOCK
 }
 

@@ -24,11 +24,11 @@ place_sought t id = position_from-zero (λ x. eqb x.id id) (on_line t) ∙ sym (
 -- ---- moving up
 
 -- of n elements, those that l has: the first gone, the others one place nearer the front, and b at the place of the last
-pub moved_up : {X : Type 0} (l : List X) (n k : ℕ) (b : X) → 0 < n → 0 < length l → k ≡ min n (length l)
+pub first_gone : {X : Type 0} (l : List X) (n k : ℕ) (b : X) → 0 < n → 0 < length l → k ≡ min n (length l)
     → set (copy_within l 1 k 0) (k - 1) b ≡ drop 1 (take n l) ++ (b ∷ drop n l)
-moved_up [] n k b some room e = absurd (omega arith)
-moved_up (x ∷ xs) zero k b some room e = absurd (omega arith)
-moved_up (x ∷ xs) (suc m) k b some room e =
+first_gone [] n k b some room e = absurd (omega arith)
+first_gone (x ∷ xs) zero k b some room e = absurd (omega arith)
+first_gone (x ∷ xs) (suc m) k b some room e =
     let same : k - 1 ≡ min m (length xs) = omega arith in
     rw (zero-add (k - 1), drop-cons (x ∷ xs) (k - 1) x (omega arith))
     (set_at (take (k - 1) xs) (get_or (x ∷ xs) (k - 1) x) (drop (k - 1) xs) b (k - 1) (length-take-le (k - 1) xs (omega arith))

@@ -3,14 +3,12 @@ use Prim.Native.Nat.{ℕ, ◌+◌, ◌*◌, ◌^◌, ◌≤◌, ◌<◌}
 use native.Mathlib.Nat.{pow-suc, pow-le-pow_right, zero-lt-suc}
 use native.Mathlib.Numerals.{add-one}
 use native.Mathlib.Omega.{arith}
+use Rattle.std.proofs.lemmas.Bool.Decides.{nat_tests}
 use mathlib.Core.Path.{◌≡◌, refl}
 use mathlib.Core.Bool.{true}
 use mathlib.Core.List.{List, [], ◌∷◌, ◌++◌}
-use lib.Dec.{eqb, leb}
 use lib.ListN.{length, drop, get_or}
 use lib.Seq.{drop-cons, drop-length}
-use borrow.Author.Tests.{leb-true}
-use Rattle.logic.proofs.Tests.{by_test, both}
 use Rattle.wire.specs.declared.Scan.{Scan}
 use Rattle.wire.specs.declared.Scan.TheVariants.{Blank, Digits, Bad}
 use Rattle.wire.specs.Format.{is_digit, digit, column, columns, so_far}
@@ -34,23 +32,16 @@ columns_end s field i e = rw (e, drop-length field) refl
 -- ---- a field of k columns shows a number below 10^k
 
 pub digit_range : (b : ℕ) → is_digit b ≡ true → (48 ≤ b) × (b ≤ 57)
-digit_range b e =
-    let two = both (leb 48 b) (leb b 57) e in
-    (leb-true 48 b two.0, leb-true b 57 two.1)
+digit_range b e = grind (arith, nat_tests)
 
 digit_below : (n b p : ℕ) → n < p → so_far (digit n b) < p * 10
 unfolding digit
-digit_below n b p h =
-    by_test (is_digit b)
-    (λ e.
-    let range = digit_range b e in
-    rw e (omega arith))
-    (λ e. rw e (omega arith))
+digit_below n b p h = grind (arith, nat_tests)
 
 column_below_by : (s : Scan) (b p : ℕ) → so_far s < p → so_far (column s b) < p * 10
 unfolding column
-column_below_by Blank b p h = by_test (eqb b 32) (λ e. rw e (omega arith)) (λ e. rw e (digit_below 0 b p h))
-column_below_by (Digits n) b p h = by_test (eqb n 0) (λ e. rw e (omega arith)) (λ e. rw e (digit_below n b p h))
+column_below_by Blank b p h = grind (arith, nat_tests, digit_below)
+column_below_by (Digits n) b p h = grind (arith, nat_tests, digit_below)
 column_below_by Bad b p h = omega arith
 
 pub column_below : (s : Scan) (b k : ℕ) → so_far s < 10 ^ k → so_far (column s b) < 10 ^ (k + 1)

@@ -1,15 +1,16 @@
 -- What is written is read back: a number, the numbers of a line, a request, an answer. Assumes nothing.
 use Rattle.std.specs.Prelude.{Some}
-use Prim.Native.Nat.{ℕ, zero, suc, ◌+◌, ◌-◌, ◌*◌, ◌/◌, ◌%◌, ◌^◌, ◌<◌}
+use Prim.Native.Nat.{ℕ, zero, suc, ◌+◌, ◌*◌, ◌/◌, ◌%◌, ◌^◌, ◌<◌}
 use native.Mathlib.Nat.{div-add-mod, mod-lt, pow-zero, pow-suc}
 use native.Mathlib.Omega.{arith}
+use Rattle.std.proofs.lemmas.Bool.Decides.{nat_tests}
 use mathlib.Core.Path.{◌≡◌, refl, ap, ◌∙◌}
 use mathlib.Core.Bool.{cond}
 use mathlib.Core.List.{List, [], ◌∷◌, ◌++◌}
 use lib.Dec.{eqb, eqb-suc-zero}
 use lib.ListN.{length, length-append}
 use lib.Seq.{take_at, drop_at}
-use borrow.Author.Tests.{eq-eqb, ne_eqb, le-leb}
+use borrow.Author.Tests.{eq-eqb}
 use Rattle.calls.specs.declared.Numbers.{Numbers}
 use Rattle.calls.specs.Requests.{request_of}
 use Rattle.wire.specs.declared.Scan.{Scan}
@@ -40,14 +41,12 @@ shows n = cond (eqb n 0) Blank (Digits n)
 
 digit_read : (n d : ℕ) → d < 10 → digit n (48 + d) ≡ Digits (10 * n + d)
 unfolding digit
-digit_read n d h =
-    let e : 48 + d - 48 ≡ d = omega arith in
-    simp (le-leb 48 (48 + d) (omega arith), le-leb (48 + d) 57 (omega arith), e)
+digit_read n d h = grind (arith, nat_tests)
 
 column_digit : (n d : ℕ) → d < 10 → column (shows n) (48 + d) ≡ Digits (10 * n + d)
 unfolding column
-column_digit zero d h = simp (ne_eqb (48 + d) 32 (λ e. omega arith)) (digit_read 0 d h)
-column_digit (suc n) d h = simp (eqb-suc-zero n) (digit_read (suc n) d h)
+column_digit zero d h = grind (arith, nat_tests, digit_read)
+column_digit (suc n) d h = grind (arith, nat_tests, digit_read)
 
 -- the last digit of a number, after what is left of it
 column_number : (n : ℕ) → column (shows (n / 10)) (digit_of n) ≡ Digits n

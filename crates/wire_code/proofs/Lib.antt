@@ -1,2 +1,3 @@
+pub mod Blanks
 pub mod Rows
 pub mod Texts

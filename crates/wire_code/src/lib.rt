@@ -102,6 +102,7 @@ pub fn read_line(line: &[u8]) -> Option<Request>
 // ---- writing
 
 // n right-justified in so many columns of out, from place `at` on: spaces in all of them, and then its digits from the right.
+// Of a number that has more digits the last are written, where `{n:>14}` would take more columns.
 pub fn put(out: &mut [u8], at: usize, width: usize, n: u64)
     requires { (0 < width) × (at + width ≤ length out.old) }
     ensures { out.new ≡ paste out.old at (text width n) width }
