@@ -9,7 +9,7 @@ ghost use Rattle.motion.specs.Bounds.{Bounded};
 ghost use Rattle.train.specs.Ranges.{settings_in_range, settings_of};
 ghost use Rattle.train.specs.Record.{figures_for, authority_to, fresh_authority, ending_at, wanting, fresh_marks, entering};
 ghost use Rattle.train.specs.Track.{steps_of, limit_behind, within_limit};
-ghost use Rattle.train.specs.Report.{worst_of, reach_of, moves, must_brake, order_after, is_penalty, settled, ordered, reported, computable, report_allowed};
+ghost use Rattle.train.specs.Report.{reach_of, moves, must_brake, order_after, is_penalty, settled, ordered, reported, computable, report_allowed};
 ghost use Rattle.train_code.specs.Report.{with_reach};
 
 use brake::Figures;
@@ -206,14 +206,6 @@ fn vehicle_of(x: Train) -> Vehicle
     }
 }
 
-// The worst case of the last order.
-fn worst_of(x: Train) -> Motion
-    requires { computable x ≡ true }
-    ensures { result ≡ worst_of x }
-{
-    vehicle_of(x).worst_case(x.order)
-}
-
 // A call back to a place short of it is pending.
 pub fn reach_of(x: Train) -> u64
     requires { computable x ≡ true }
@@ -233,8 +225,8 @@ fn motion_after(worst: Motion, r: Reading) -> Motion
     }
 }
 
-// Refusal 9. Head and speed are judged each by itself: no further back than the last head, no worse than the worst case. A record that motion
-// cannot be worked out from is refused too: no list of calls leaves one.
+// Refusal 9. Head and speed are judged each by itself: no further back than the last head, no worse than the worst case of the last order. A
+// record that motion cannot be worked out from is refused too: no list of calls leaves one.
 #[tactic(auto, unfolding(train::specs::Report::report_allowed, train::specs::Report::allowed))]
 pub fn report_allowed(s: Settings, x: Train, r: Reading) -> bool
     ensures { result ≡ report_allowed s x r }
@@ -242,7 +234,7 @@ pub fn report_allowed(s: Settings, x: Train, r: Reading) -> bool
     if !is_computable(x) {
         return false;
     }
-    let worst = worst_of(x);
+    let worst = vehicle_of(x).worst_case(x.order);
     x.motion.head <= r.head
         && r.head <= worst.head
         && r.speed <= worst.speed
@@ -296,7 +288,8 @@ pub fn report_on(s: Settings, x: Train, r: Reading) -> Reported
     requires { report_allowed s x r ≡ true }
     ensures { result ≡ with_reach (reported s x r) }
 {
-    let m = motion_after(worst_of(x), r);
+    let worst = vehicle_of(x).worst_case(x.order);
+    let m = motion_after(worst, r);
     let given = order_after(s, x, m);
     Reported {
         train: with_order(x, m, given),
