@@ -1,9 +1,9 @@
 // Reads a session's input lines, and writes its answers: document 01, "The session program".
 #![tactic(auto)]
 
-ghost use Rattle.std.specs.Prelude.{◌≡◌, ◌+◌, ◌/◌, ◌≤◌, ◌<◌, length};
+ghost use Rattle.std.specs.Prelude.{◌≡◌, ◌+◌, ◌≤◌, ◌<◌, length};
 ghost use Rattle.std.proofs.Math.Seq.{paste};
-ghost use Rattle.wire.specs.Format.{digit as digit_after, column as column_after, so_far, field_of, call_columns, call_width, numbers_in, row_in, line_read, digit_of, text, room_at, rendered};
+ghost use Rattle.wire.specs.Format.{digit as digit_after, column as column_after, so_far, field_of, call_columns, call_width, numbers_in, row_in, line_read, text, room_at, rendered};
 
 use calls::{Numbers, ROW, Request};
 use wire::{CALL_COLUMNS, CALL_WIDTH, Scan};
