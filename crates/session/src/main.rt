@@ -42,8 +42,8 @@ struct Closed {
     written: bool,
 }
 
-// What comes of a session: how many bytes were read, how it stopped, and, where the input ended, how many bytes its last answer has. The input may
-// have ended though the last answer could not be written.
+// What comes of a session: how many bytes were read, how it stopped, and, where the input ended, how many bytes its last answer has. The
+// input may have ended though the last answer could not be written.
 #[derive(Clone, Copy)]
 struct Served {
     read: usize,
@@ -83,8 +83,8 @@ fn take_in(rt: HostRuntime, x: &mut Stream, piece: &mut [u8; PIECE], out: &mut [
     Took { read, answered }
 }
 
-// What follows a turn: a stop, or one more. A read that failed is not the end of the input. Apart from the loop, so that a contract says when it
-// stops.
+// What follows a turn: a stop, or one more. A read that failed is not the end of the input. Apart from the loop, so that a contract says
+// when it stops.
 fn after_turn(read: Option<usize>, written: bool) -> Option<Stop>
     ensures { result ≡ next_after read written }
 {
@@ -97,8 +97,8 @@ fn after_turn(read: Option<usize>, written: bool) -> Option<Stop>
 }
 
 // Reads until the input ends, a read fails or the answers cannot be written. After each read they are written: a train waits at the other
-// end. The stream of before is for the contract of that: no code reads it, and the compiler does not copy it. A proved loop has to end, and nothing
-// says that an input does. So the loop counts the bytes, up to a number that no run reaches.
+// end. The stream of before is for the contract of that: no code reads it, and the compiler does not copy it. A proved loop has to end, and
+// nothing says that an input does. So the loop counts the bytes, up to a number that no run reaches.
 fn run(rt: HostRuntime, x: &mut Stream, piece: &mut [u8; PIECE], out: &mut [u8; OUT]) -> Ran
     ensures { TookIn x.old result.read x.new × Stopped result.how result.read }
 {
@@ -161,8 +161,8 @@ fn serve(rt: HostRuntime, piece: &mut [u8; PIECE], out: &mut [u8; OUT]) -> Serve
     }
 }
 
-// Says on standard error why the session stopped before all was answered. Nothing else tells it: the exit status is 0. Where standard error cannot
-// be written either, nobody can be told.
+// Says on standard error why the session stopped before all was answered. Nothing else tells it: the exit status is 0. Where standard error
+// cannot be written either, nobody can be told.
 fn tell(rt: HostRuntime, how: Stop) {
     let message: &[u8] = match how {
         Stop::Ended => return,

@@ -1,11 +1,10 @@
 -- Laws of the bytes that are kept and written. Assumes nothing.
 use Prim.Native.Nat.{ℕ, zero, suc, min, ◌+◌, ◌≤◌, ◌<◌}
-use native.Mathlib.Numerals.{add-one}
 use native.Mathlib.Omega.{arith}
 use mathlib.Core.Path.{◌≡◌, refl, sym, ap, ◌∙◌}
 use mathlib.Core.List.{List, [], ◌∷◌, ◌++◌}
 use lib.ListN.{length, take, drop, set, length-take, length-append}
-use lib.Seq.{take-suc-set, take_all, take-take, take_at, get_or_at, drop-drop, paste, paste-suc, length-paste, take-paste, drop-paste}
+use lib.Seq.{take_all, take-take, take_at, get_or_at, drop-drop, paste, paste-suc, length-paste, take-paste, drop-paste}
 use lib.Dec.{leb}
 use borrow.Author.Tests.{leb-true, leb-false}
 use Rattle.logic.proofs.Tests.{by_test}
@@ -25,10 +24,6 @@ keep_first l n r e =
     (λ t.
     let some : r ≡ kept_width = omega (arith, leb-false) in
     rw some (sym (take-take kept_width n l (omega (arith, leb-false)))))
-
--- one byte more, as far as it is kept
-pub keep_more : (l : List ℕ) (n r b : ℕ) → n < length l → r ≡ min (n + 1) kept_width → take r (set l n b) ≡ kept (take n l ++ (b ∷ []))
-keep_more l n r b h e = rw (← take-suc-set l n b h, ← add-one n) (keep_first (set l n b) (n + 1) r e)
 
 -- ---- an output line in its place
 

@@ -46,8 +46,8 @@ pub fn feed(x: &mut Stream, piece: &[u8], out: &mut [u8]) -> Option<usize>
     Some(stream_piece_code::feed_all(x, piece, out))
 }
 
-// At the end of the input: writes the answer to a last line without its line feed into out, and tells how many bytes it is. Without room for it
-// nothing is written.
+// At the end of the input: writes the answer to a last line without its line feed into out, and tells how many bytes that is. Without room
+// for it nothing is written.
 pub fn finish(x: &Stream, out: &mut [u8]) -> Option<usize>
     ensures { FinishPromise x.now out.old result out.new }
 {

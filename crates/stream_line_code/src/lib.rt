@@ -93,8 +93,8 @@ pub fn read_on(bytes: &mut [u8], count: usize, part: &[u8]) -> Option<Request>
 
 // ---- its answer
 
-// What is decided of a line that was read, and carried out: the table is lent, and searched and changed where it stands. An unreadable line changes
-// nothing.
+// What is decided of a line that was read, and carried out: the table is lent, and searched and changed where it stands. An unreadable line
+// changes nothing.
 #[tactic(auto, unfolding(stream::specs::Session::line_decision))]
 fn carry_out_line(opened: bool, t: &mut Table, q: Option<Request>) -> Answer
     ensures answer { result ≡ (line_decision (session opened t.old) q).answer }

@@ -7,7 +7,7 @@ use Rattle.stream.specs.declared.Reply.{Reply}
 use Rattle.stream.specs.Session.{answered}
 use Rattle.stream.specs.Input.{output_line, begun, kept_width, kept, output_width, Taken}
 use Rattle.stream.proofs.Bytes.{keep_first, output_all, output_front, output_back, same_further}
-use Rattle.stream.proofs.Lines.{Standing, standing, standing_kept, standing_end, standing_bytes, line_taken, piece_taken}
+use Rattle.stream.proofs.Lines.{standing, standing_kept, standing_end, standing_bytes, line_taken, piece_taken}
 use Rattle.stream_line_code.specs.Feeds.{NoFeed, Split}
 
 module _ (x : Stream) (piece before : List ℕ) where

@@ -7,8 +7,8 @@ ghost use Rattle.stream.specs.Input.{output_width, Taken};
 use stream::{KEPT_WIDTH, Stream};
 use stream_line_code::OUTPUT_WIDTH;
 
-// The whole piece, and how many bytes are written. One answer for a line feed, so that an output line for each byte is room enough. The stream is
-// lent: its table is searched and changed where it stands, and no line copies it.
+// The whole piece, and how many bytes are written. One answer for a line feed, so that an output line for each byte is room enough. The
+// stream is lent: its table is searched and changed where it stands, and no line copies it.
 pub fn feed_all(x: &mut Stream, piece: &[u8], out: &mut [u8]) -> usize
     requires { output_width * length piece.now ≤ length out.old }
     ensures { Taken x.old piece.now out.old result x.new out.new }

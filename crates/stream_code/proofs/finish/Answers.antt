@@ -1,9 +1,9 @@
 -- `stream_code::finish` meets its contract.
-use Rattle.std.proofs.Common.{◌≡◌, ℕ, List, length, rules, arith, refl, sym, ap, ◌∙◌}
+use Rattle.std.proofs.Common.{◌≡◌, length, rules, arith, refl, sym, ◌∙◌}
 use borrow.Author.Tests.{le-leb, lt-leb}
 use Rattle.calls.specs.Answers.{numbers}
 use Rattle.stream.specs.declared.Stream.{Stream}
-use Rattle.stream.specs.Input.{output_line, last_answer, begun, kept_width, output_width}
+use Rattle.stream.specs.Input.{output_line, last_answer, begun, kept_width}
 use Rattle.stream.proofs.Bytes.{output_long, output_first, none_begun, line_begun}
 use Rattle.stream_code.proofs.finish.Goals as goal
 
