@@ -53,8 +53,8 @@ fn take_line(
     Ok(r.session)
 }
 
-// Answers the lines that a piece ends, each in the state that the one before it left. Where an output line cannot be written it stops: no line
-// may be missing between two that are.
+// Answers the lines that a piece ends, each in the state that the one before it left. Where an output line cannot be written it stops: no
+// line may be missing between two that are.
 fn take_piece(
     rt: HostRuntime,
     x: Stream,

@@ -1,5 +1,5 @@
-// What is done for a line at the desk: it is read, made or tried, and what is shown of it is written. The state goes in and comes back by value:
-// nothing here has to be quick.
+// What is done for a line at the desk: it is read, made or tried, and what is shown of it is written. The state goes in and comes back by
+// value: nothing here has to be quick.
 #![tactic(auto)]
 
 ghost use Rattle.std.specs.Prelude.{◌≡◌, ◌≤◌, Some, length};

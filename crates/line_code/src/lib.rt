@@ -110,7 +110,7 @@ pub fn needs_opening(a: Ask) -> bool
     matches!(a, Ask::OnTable(_))
 }
 
-// What any request would come to on a copy of the table. No table is copied, and none comes back.
+// What any request would come to on a copy of the table. It is decided alone: no table is changed, and none comes back.
 pub fn preview(t: Table, r: Request) -> Shown
     ensures { result ≡ previewed t r }
 {

@@ -35,8 +35,8 @@ pub fn start() -> Stream
     }
 }
 
-// Takes the next piece of the input in, writes the answers to the lines that it ends into out, and tells how many bytes these are. A piece is
-// not taken where out has no room for the answers that it might need: then stream and out stay.
+// Takes the next piece of the input in, writes the answers to the lines that it ends into out, and tells how many bytes these are. A piece
+// is not taken where out has no room for the answers that it might need: then stream and out stay.
 pub fn feed(x: &mut Stream, piece: &[u8], out: &mut [u8]) -> Option<usize>
     ensures { FeedPromise x.old piece.now out.old result x.new out.new }
 {

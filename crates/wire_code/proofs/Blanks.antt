@@ -43,6 +43,12 @@ module _ (l : List ℕ) (at : ℕ) where
   unfolding left
   put_next j rest b h d = rw (← d) (column_set (left j (rest / 10)) j b h)
 
+  -- nothing is left of the number, or of the columns
+  put_none : (i rest : ℕ) → (0 < i → rest ≡ 0) → filled l at i rest ≡ filled l at i 0
+  unfolding left
+  put_none zero rest z = refl
+  put_none (suc i) rest z = ap (filled l at (suc i)) (z (omega arith))
+
   -- then only spaces are left to write, and the columns hold them already
   spaces_left : (i : ℕ) → at + i ≤ length l → Spaces l at i → filled l at i 0 ≡ l
   unfolding left
@@ -50,3 +56,16 @@ module _ (l : List ℕ) (at : ℕ) where
   spaces_left (suc j) h s =
       let same : set l (at + j) 32 ≡ l = ap (set l (at + j)) (sym (s j (omega arith))) ∙ set-get_or l (at + j) 0 in
       put_next j 0 32 (omega arith) refl ∙ ap (λ (m : List ℕ). filled m at j 0) same ∙ spaces_left j (omega arith) (λ k b. s k (omega arith))
+
+-- A number half written: l, with what is left of it in the columns that are left, is l₀ with what was left at first. Those columns
+-- hold spaces.
+pub record Putting (l₀ : List ℕ) (at i₀ rest₀ : ℕ) (l : List ℕ) (i rest : ℕ) : Type 0 where
+  pub within : at + i < length l
+  pub size : length l ≡ length l₀
+  pub same : filled l₀ at i₀ rest₀ ≡ filled l at i rest
+  pub spaces : Spaces l at i
+
+-- no digit is left, or no column
+pub putting_done : {l₀ : List ℕ} {at i₀ rest₀ : ℕ} {l : List ℕ} {i rest : ℕ} → Putting l₀ at i₀ rest₀ l i rest → (0 < i → rest ≡ 0)
+    → filled l₀ at i₀ rest₀ ≡ l
+putting_done {at = at} {l = l} {i = i} {rest = rest} p none = p.same ∙ put_none l at i rest none ∙ spaces_left l at i (omega arith) p.spaces

@@ -25,13 +25,13 @@ left_none zero = refl
 left_none (suc i) = rw (left_none i) (sym (replicate_next i 32) ∙ ap (λ (k : ℕ). replicate k 32) (add-one i))
 
 -- A number half written: the w columns of l, with the i columns that are left written too, show n. Those columns hold spaces.
-pub record Putting (w n : ℕ) (l : List ℕ) (i rest : ℕ) : Type 0 where
+pub record Writing (w n : ℕ) (l : List ℕ) (i rest : ℕ) : Type 0 where
   pub size : length l ≡ w
   pub spaces : take i l ≡ replicate i 32
   pub same : text i rest ++ drop i l ≡ text w n
 
 -- one column more is written
-module _ {w n j rest b : ℕ} (l : List ℕ) (p : Putting w n l (suc j) rest) (within : j < w) (digit : b ≡ digit_of rest) where
+module _ {w n j rest b : ℕ} (l : List ℕ) (p : Writing w n l (suc j) rest) (within : j < w) (digit : b ≡ digit_of rest) where
   written : left j (rest / 10) ++ drop j (set l j b) ≡ text w n
   unfolding text
   written = let same = p.same in let size = p.size in grind (arith, common_steps)
@@ -43,16 +43,16 @@ module _ {w n j rest b : ℕ} (l : List ℕ) (p : Putting w n l (suc j) rest) (w
       ∙ ap (take j) p.spaces
       ∙ take-replicate j (suc j) 32 (omega arith)
 
-  pub putting_next : eqb (rest / 10) 0 ≡ false → Putting w n (set l j b) j (rest / 10)
-  putting_next more = record {
+  pub writing_next : eqb (rest / 10) 0 ≡ false → Writing w n (set l j b) j (rest / 10)
+  writing_next more = record {
     size = rw length-set p.size;
     spaces = still;
     same = rw (← left_text j (rest / 10) more) written;
   }
 
   -- no digit is left
-  pub putting_done : rest / 10 ≡ 0 → set l j b ≡ text w n
-  putting_done none = let w = written in let s = still in let e = left_none j in let all = take-append-drop j (set l j b) in cc
+  pub writing_done : rest / 10 ≡ 0 → set l j b ≡ text w n
+  writing_done none = let w = written in let s = still in let e = left_none j in let all = take-append-drop j (set l j b) in cc
 
 -- ---- numbers side by side
 
