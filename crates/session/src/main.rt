@@ -164,14 +164,13 @@ fn serve(rt: HostRuntime, piece: &mut [u8; PIECE], out: &mut [u8; OUT]) -> Serve
 // Says on standard error why the session stopped before all was answered. Nothing else tells it: the exit status is 0. Where standard error
 // cannot be written either, nobody can be told.
 fn tell(rt: HostRuntime, how: Stop) {
-    let message: &[u8] = match how {
+    let why = match how {
         Stop::Ended => return,
-        Stop::NotRead => b"session: standard input cannot be read; nothing more is answered\n",
-        Stop::NotWritten =>
-            b"session: standard output cannot be written; nothing more is answered\n",
-        Stop::Full => b"session: no more bytes can be counted; nothing more is answered\n",
+        Stop::NotRead => "standard input cannot be read",
+        Stop::NotWritten => "standard output cannot be written",
+        Stop::Full => "no more bytes can be counted",
     };
-    let _told = rt.stderr().write_all(message).is_ok();
+    let _ = eprintln!(rt; "session: {why}; nothing more is answered");
 }
 
 fn main(rt: HostRuntime) {

@@ -1,5 +1,5 @@
 -- Laws of the bytes that are kept of a line. Assumes nothing.
-use Rattle.std.proofs.Common.{◌≡◌, ℕ, ◌+◌, ◌-◌, ◌≤◌, min, List, ◌∷◌, ◌++◌, take, length, sym, ap, ◌∙◌, arith, length-take, length-take-le}
+use Rattle.std.proofs.Common.{◌≡◌, ℕ, ◌+◌, ◌-◌, ◌≤◌, min, List, ◌++◌, take, length, sym, ap, ◌∙◌, arith, length-take, length-take-le}
 use mathlib.Core.List.{append_assoc}
 use lib.ListN.{drop, take-append-drop}
 use lib.Seq.{take-append-le}

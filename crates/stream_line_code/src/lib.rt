@@ -3,9 +3,8 @@
 #![tactic(auto)]
 
 ghost use Rattle.std.specs.List.{list_any};
-ghost use Rattle.std.specs.Prelude.{◌≡◌, ◌||◌, ◌==◌, ◌++◌, ◌+◌, ◌≤◌, eqb, length, take, MatchOption};
+ghost use Rattle.std.specs.Prelude.{◌≡◌, ◌==◌, ◌++◌, ◌+◌, ◌≤◌, length, take, MatchOption};
 ghost use Rattle.std.proofs.Math.Seq.{paste};
-ghost use Rattle.calls.specs.Answers.{numbers_of};
 ghost use Rattle.wire.specs.Format.{line_read};
 ghost use Rattle.table.specs.Table.{changed};
 ghost use Rattle.stream.specs.Session.{session, line_decision, replied};
@@ -69,8 +68,8 @@ pub fn split_line(piece: &[u8]) -> Option<(&[u8], &[u8])>
 // ---- its bytes
 
 // More bytes of a line, as far as they are kept.
-pub fn push_all(bytes: &mut [u8], count: usize, part: &[u8]) -> usize
-    requires { (length bytes.old ≡ kept_width) × (count ≤ kept_width) }
+pub fn push_all(bytes: &mut [u8; KEPT_WIDTH], count: usize, part: &[u8]) -> usize
+    requires { count ≤ kept_width }
     ensures { (take result bytes.new ≡ kept (take count bytes.old ++ part.now)) × (result ≤ kept_width) }
 {
     let n = part.len().min(KEPT_WIDTH - count);
@@ -80,8 +79,8 @@ pub fn push_all(bytes: &mut [u8], count: usize, part: &[u8]) -> usize
 
 // What a line asks, given its bytes in this piece. A line that lies whole in its piece is read there; the rest of a line that has begun
 // before is put to its first bytes.
-pub fn read_on(bytes: &mut [u8], count: usize, part: &[u8]) -> Option<Request>
-    requires { (length bytes.old ≡ kept_width) × (count ≤ kept_width) }
+pub fn read_on(bytes: &mut [u8; KEPT_WIDTH], count: usize, part: &[u8]) -> Option<Request>
+    requires { count ≤ kept_width }
     ensures { result ≡ line_read (take count bytes.old ++ part.now) }
 {
     if count == 0 {

@@ -16,7 +16,6 @@ module _ (x : Stream) (piece before : List ℕ) where
   pub record Feeding (y : Stream) (out : List ℕ) (at : ℕ) (left : List ℕ) : Type 0 where
     pub room : at + output_width * length left ≤ length out
     pub size : length out ≡ length before
-    pub line : length y.bytes ≡ kept_width
     pub bounded : y.count ≤ kept_width
     pub others : drop at out ≡ drop at before
     pub stands : standing x.session (begun x) [] piece ≡ standing y.session (begun y) (take at out) left
@@ -36,15 +35,14 @@ module _ (x : Stream) (piece before : List ℕ) where
     -- it is answered, its output line is written, and z is the stream after it
     pub line_fed : (line rest : List ℕ) → Split left line rest → (r : Reply) → r ≡ answered y.session (begun y ++ line)
         → (now : List ℕ) → now ≡ paste out at (output_line r.answer) output_width
-        → (z : Stream) → z.session ≡ r.session → z.count ≡ 0 → length z.bytes ≡ kept_width → Feeding z now (at + output_width) rest
-    line_fed line rest s r replies now written z after none size =
+        → (z : Stream) → z.session ≡ r.session → z.count ≡ 0 → Feeding z now (at + output_width) rest
+    line_fed line rest s r replies now written z after none =
         let w = take at out in
         let room : at + output_width ≤ length out = omega (arith, line_room line rest s) in
         let whole = ap length written ∙ output_all out at r.answer room in
         record {
           room = omega (arith, line_room line rest s, whole);
           size = whole ∙ v.size;
-          line = size;
           bounded = omega arith;
           others = ap (drop (at + output_width)) written ∙ output_back out at r.answer room ∙ same_further output_width at out before v.others;
           stands =

@@ -1,1 +1,2 @@
+pub mod ByPlaces
 pub mod Feeding

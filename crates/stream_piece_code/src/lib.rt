@@ -1,7 +1,7 @@
 // A piece of a session's input: its lines are answered, each in the state that the one before it left. Document 01, "The session program".
 #![tactic(auto)]
 
-ghost use Rattle.std.specs.Prelude.{◌≡◌, ◌*◌, ◌≤◌, length};
+ghost use Rattle.std.specs.Prelude.{◌*◌, ◌≤◌, length};
 ghost use Rattle.stream.specs.Input.{output_width, Taken};
 
 use stream::{KEPT_WIDTH, Stream};

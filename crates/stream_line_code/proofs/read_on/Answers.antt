@@ -1,11 +1,9 @@
 -- `stream_line_code::read_on` meets its contract.
-use Prim.Native.Nat.{ℕ, ◌≤◌}
-use native.Mathlib.Omega.{arith}
+use Prim.Native.Nat.{ℕ}
 use mathlib.Core.Path.{sym, ap, ◌∙◌}
 use mathlib.Core.List.{◌++◌}
-use lib.ListN.{take, length-take}
+use lib.ListN.{take}
 use Rattle.wire.specs.Format.{line_read}
-use Rattle.stream.specs.Input.{kept_width}
 use Rattle.stream.proofs.Lines.{read_kept}
 use Rattle.stream_line_code.proofs.read_on.Goals as goal
 
@@ -13,11 +11,6 @@ pub returns-then-count-eq0 : goal.returns-then-count-eq0
 returns-then-count-eq0 c =
     let a = c.args in
     c.read_line.ensures ∙ ap (λ (n : ℕ). line_read (take n a.bytes.now ++ a.part.now)) (sym c.if-count-eq0.true)
-
-pub slice_bounds-read_line-end-2 : goal.slice_bounds-read_line-end-2
-slice_bounds-read_line-end-2 c =
-    let m : c.push_all-n.result ≤ kept_width = c.push_all-n.ensures.1 in
-    simp length-take (omega arith)
 
 pub returns : goal.returns
 returns c =

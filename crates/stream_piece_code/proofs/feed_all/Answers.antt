@@ -1,5 +1,5 @@
 -- `stream_piece_code::feed_all` meets its contract. What a turn of its loop does is a law in Feeding.
-use Rattle.std.proofs.Common.{◌≡◌, rules, arith, refl, ap, ◌∙◌}
+use Rattle.std.proofs.Common.{◌≡◌, arith, refl, ap, ◌∙◌}
 use Rattle.stream.specs.declared.Reply.{Reply}
 use Rattle.stream.specs.Session.{line_decision, replied}
 use Rattle.stream_piece_code.proofs.Feeding.{begins, line_fed, piece_fed}
@@ -11,7 +11,6 @@ loop-part-init c =
     record {
       room = omega arith;
       size = refl;
-      line = search rules;
       bounded = omega (arith, c.min-x.ensures);
       others = refl;
       stands = begins a.x.now a.piece.now a.out.now c.min-x.result c.min-x.ensures;
@@ -26,7 +25,7 @@ loop-part-preserved c =
     let told : reply ≡ replied s (line_decision s c.read_on-q.result) = cc in
     line_fed a.x.now a.piece.now a.out.now _ _ _ _ c.loop-part.invariant _ _ c.in-Some.ensures reply (told ∙ ap (λ q. replied s (line_decision s q)) c.read_on-q.ensures) _ c.put_line.ensures
     (record { session = after.new.s; bytes = c.read_on-q.new.bytes; count = 0 })
-    refl refl (search rules)
+    refl refl
 
 pub returns : goal.returns
 returns c =
