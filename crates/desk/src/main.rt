@@ -96,17 +96,15 @@ fn close(rt: HostRuntime, x: Stream, out: &mut [u8; DESK_WIDTH]) -> Result<(), S
 const PIECE: usize = 4096;
 
 // Reads until the input ends, a read fails or answers cannot be written. A proved loop has to end, and nothing says that an input does. So the
-// loop counts the bytes, up to a number that no run reaches.
+// loop counts the reads, up to a number that no run reaches.
 fn run(rt: HostRuntime, piece: &mut [u8; PIECE], out: &mut [u8; DESK_WIDTH]) -> Result<(), Stop> {
     let mut x = stream_code::start();
-    let mut read: usize = 0;
-    while read <= usize::MAX - PIECE {
+    for _ in 0..u64::MAX {
         let n = rt.stdin().read(piece).map_err(|_| Stop::NotRead)?;
         if n == 0 {
             return close(rt, x, out);
         }
         x = take_piece(rt, x, &piece[..n], out)?;
-        read += n;
     }
     Ok(())
 }
