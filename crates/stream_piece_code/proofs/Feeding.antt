@@ -15,7 +15,6 @@ module _ (x : Stream) (piece before : List ℕ) where
   -- where the whole piece leaves x.
   pub record Feeding (y : Stream) (out : List ℕ) (at : ℕ) (left : List ℕ) : Type 0 where
     pub room : at + output_width * length left ≤ length out
-    pub size : length out ≡ length before
     pub bounded : y.count ≤ kept_width
     pub others : drop at out ≡ drop at before
     pub stands : standing x.session (begun x) [] piece ≡ standing y.session (begun y) (take at out) left
@@ -39,10 +38,8 @@ module _ (x : Stream) (piece before : List ℕ) where
     line_fed line rest s r replies now written z after none =
         let w = take at out in
         let room : at + output_width ≤ length out = omega (arith, line_room line rest s) in
-        let whole = ap length written ∙ output_all out at r.answer room in
         record {
-          room = omega (arith, line_room line rest s, whole);
-          size = whole ∙ v.size;
+          room = omega (arith, line_room line rest s, ap length written ∙ output_all out at r.answer room);
           bounded = omega arith;
           others = ap (drop (at + output_width)) written ∙ output_back out at r.answer room ∙ same_further output_width at out before v.others;
           stands =

@@ -10,7 +10,6 @@ loop-part-init c =
     let a = c.args in
     record {
       room = omega arith;
-      size = refl;
       bounded = omega (arith, c.min-x.ensures);
       others = refl;
       stands = begins a.x.now a.piece.now a.out.now c.min-x.result c.min-x.ensures;
