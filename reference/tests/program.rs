@@ -321,9 +321,11 @@ impl Project {
         let name = format!("{test}-{script}-{}", std::process::id());
         let path = Path::new(env!("CARGO_TARGET_TMPDIR")).join(name);
         fs::create_dir_all(path.join("crates").join(script)).expect("a folder");
-        for file in [script, STARTER] {
-            fs::copy(of_project(file), path.join(file)).expect("a copy");
-        }
+        // A process of its own writes the script: had this one written it, a child that another test
+        // starts meanwhile could hold it open, and a file that is open to write does not start.
+        let files = [script, STARTER].map(of_project);
+        let copied = Command::new("cp").args(files).arg(&path).status();
+        assert!(copied.expect("cp runs").success());
         fs::write(path.join("crates.txt"), CRATES).expect("a file");
         Project { script, path }
     }

@@ -13,7 +13,6 @@ use std::fs::{self, File};
 use std::io::{self, Read, Write};
 use std::net::Shutdown;
 use std::os::fd::OwnedFd;
-use std::os::unix::fs::PermissionsExt;
 use std::os::unix::net::UnixStream;
 use std::path::Path;
 use std::process::{Command, Stdio};
@@ -527,12 +526,17 @@ fn long_line(keep: &Path) {
     assert_eq!(kept.look("--check").status, Some(0));
 }
 
-/// A made-up session program, in the shell.
+/// A made-up session program, in the shell. A process of its own writes it: had this one written
+/// it, a child that another scene starts meanwhile could hold it open, and a file that is open to
+/// write does not start ("Text file busy").
 fn made_up(kept: &mut Kept, script: &str) {
+    let text = kept.beside("script");
+    fs::write(&text, format!("#!/usr/bin/env bash\n{script}\n")).expect("a file");
     kept.session = kept.beside("program");
-    fs::write(&kept.session, format!("#!/usr/bin/env bash\n{script}\n")).expect("a file");
-    let all = fs::Permissions::from_mode(0o755);
-    fs::set_permissions(&kept.session, all).expect("it may run");
+    let installed = Command::new("install")
+        .args([&text, &kept.session])
+        .status();
+    assert!(installed.expect("install runs").success());
 }
 
 /// A program that looks for each call in the log, and answers 1 where it is there.
