@@ -4,7 +4,7 @@ use native.Mathlib.Numerals.{add-one}
 use native.Mathlib.Omega.{arith}
 use mathlib.Core.Path.{◌≡◌, refl, sym, ap, ◌∙◌}
 use mathlib.Core.List.{List, [], ◌∷◌, ◌++◌, append_assoc, append-nil}
-use lib.ListN.{length, take, drop, get_or, set, replicate, length-append}
+use lib.ListN.{length, take, drop, get_or, set, replicate, length-append, length-drop}
 use lib.Seq.{paste, drop-cons, drop-length}
 use Rattle.std.proofs.lemmas.List.{set-append_right}
 use Rattle.std.proofs.lemmas.List.Edits.{paste_all, paste-paste}
@@ -53,7 +53,8 @@ module _ (w : Shown) where
   shown_long = simp (length-append, text_long)
 
   -- an output line has 269 bytes
-  line_long : length ((answer ++ shown) ++ (10 ∷ [])) ≡ desk_width
+  pub line_long : length (desk_line w) ≡ desk_width
+  unfolding desk_line
   line_long = simp (length-append, answer_long, shown_long)
 
   module _ (out : List ℕ) where
@@ -65,6 +66,10 @@ module _ (w : Shown) where
         let both = paste-paste out 0 answer shown 44 224 (sym (answer_long _)) (sym shown_long) (omega arith) in
         rw (le-leb 44 (length out) (omega arith), both, paste_all out 0 (answer ++ shown) 268 (sym long))
         (rw (set-append_right (answer ++ shown) (drop 268 out) 268 268 10 long (omega arith), drop-cons out 268 0 (omega arith), line_long, append_assoc (answer ++ shown) (10 ∷ []) (drop desk_width out)))
+
+    -- and leaves the buffer as long as it was
+    pub put_long : desk_width ≤ length out → length (over (desk_line w) out) ≡ length out
+    put_long room = omega (arith, line_long, length-append (desk_line w) (drop (length (desk_line w)) out), length-drop (length (desk_line w)) out)
 
     -- in a buffer for one line it is all that stands there
     pub line_whole : length out ≡ desk_width → desk_written w out ≡ desk_line w

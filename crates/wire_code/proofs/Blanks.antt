@@ -4,13 +4,17 @@ use native.Mathlib.Nat.{le_of_suc-le-suc, not-suc-le-zero, add-suc, add-zero}
 use native.Mathlib.Omega.{arith}
 use mathlib.Core.Path.{◌≡◌, refl, sym, ap, ◌∙◌}
 use mathlib.Core.List.{List, [], ◌∷◌, ◌++◌, append_assoc}
-use lib.ListN.{length, take, drop, get_or, set, take-append-drop}
-use lib.Seq.{take-set-le, set-get_or, paste}
+use lib.ListN.{length, take, drop, get_or, set, length-set, take-append-drop}
+use lib.Seq.{take-set-le, get_or-set_other, set-get_or, paste}
 use Rattle.wire.specs.Format.{left_digit, left}
 
 -- l has spaces in the w columns from place `at` on
 abbrev pub Spaces : List ℕ → ℕ → ℕ → Type 0
 Spaces l at w = (k : ℕ) → k < w → get_or l (at + k) 0 ≡ 32
+
+-- a byte to their right leaves them as they are
+pub spaces_kept : (l : List ℕ) (at j b : ℕ) → Spaces l at j → Spaces (set l (at + j) b) at j
+spaces_kept l at j b s k h = get_or-set_other l (at + j) (at + k) b 0 (λ e. omega arith) ∙ s k h
 
 -- l is l₀ with spaces in these columns
 pub record Blanked (l₀ : List ℕ) (at w : ℕ) (l : List ℕ) : Type 0 where
@@ -64,6 +68,16 @@ pub record Putting (l₀ : List ℕ) (at i₀ rest₀ : ℕ) (l : List ℕ) (i r
   pub size : length l ≡ length l₀
   pub same : filled l₀ at i₀ rest₀ ≡ filled l at i rest
   pub spaces : Spaces l at i
+
+pub putting_next : {l₀ : List ℕ} {at i₀ rest₀ : ℕ} {l : List ℕ} {i rest j b : ℕ} → Putting l₀ at i₀ rest₀ l i rest → i ≡ suc j → b ≡ left_digit rest
+    → Putting l₀ at i₀ rest₀ (set l (at + j) b) j (rest / 10)
+putting_next {at = at} {l = l} {rest = rest} {j = j} {b = b} p e d =
+    record {
+      within = simp length-set (omega arith);
+      size = length-set l (at + j) b ∙ p.size;
+      same = p.same ∙ ap (λ (i : ℕ). filled l at i rest) e ∙ put_next l at j rest b (omega arith) d;
+      spaces = spaces_kept l at j b (λ k h. p.spaces k (omega arith));
+    }
 
 -- no digit is left, or no column
 pub putting_done : {l₀ : List ℕ} {at i₀ rest₀ : ℕ} {l : List ℕ} {i rest : ℕ} → Putting l₀ at i₀ rest₀ l i rest → (0 < i → rest ≡ 0)
