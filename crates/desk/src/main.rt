@@ -3,7 +3,7 @@
 // is written is what `write_line` requires of the bytes that it is given: nothing else writes to standard output.
 #![tactic(auto)]
 
-ghost use Rattle.std.specs.Prelude.{◌≡◌, ◌≤◌, IfOk};
+ghost use Rattle.std.specs.Prelude.{◌≡◌, ◌≤◌};
 ghost use Rattle.stream.specs.Input.{kept_width};
 ghost use Rattle.desk_line.specs.Desk.{desk_answered};
 ghost use Rattle.desk_line.specs.Columns.{desk_line};
@@ -38,58 +38,53 @@ fn write_line(rt: HostRuntime, s: Session, line: &[u8], bytes: &[u8]) -> Result<
     rt.write_all(bytes).map_err(|_| Stop::NotWritten)
 }
 
-// Answers a line, given without its line feed, and gives the state after it. `out` is an output line.
+// Answers a line, given without its line feed, and leaves the state after it. `out` is an output line. It is written where all before it were: no
+// line may be missing between two that are.
 fn take_line(
     rt: HostRuntime,
-    s: Session,
+    s: &mut Session,
     line: &[u8],
     out: &mut [u8; DESK_WIDTH],
-) -> Result<Session, Stop>
-    ensures { IfOk result (λ z. z ≡ (desk_answered s line.now).session) }
+    so_far: Result<(), Stop>,
+) -> Result<(), Stop>
+    ensures { s.new ≡ (desk_answered s.old line.now).session }
 {
-    let r = desk_line_code::answer(s, line);
+    let before = *s;
+    let r = desk_line_code::answer(before, line);
+    *s = r.session;
+    so_far?;
     desk_line_code::render(r.shown, out);
-    write_line(rt, s, line, out)?;
-    Ok(r.session)
+    write_line(rt, before, line, out)
 }
 
-// Answers the lines that a piece ends, each in the state that the one before it left. Where an output line cannot be written it stops: no
-// line may be missing between two that are.
+// Answers the lines that a piece ends, each in the state that the one before it left.
 fn take_piece(
     rt: HostRuntime,
-    x: Stream,
+    x: &mut Stream,
     piece: &[u8],
     out: &mut [u8; DESK_WIDTH],
-) -> Result<Stream, Stop>
-    requires { x.count ≤ kept_width }
-    ensures { IfOk result (λ y. DeskTurn x piece.now y) }
+) -> Result<(), Stop>
+    requires { x.old.count ≤ kept_width }
+    ensures { DeskTurn x.old piece.now x.new }
 {
-    let Stream {
-        mut session,
-        mut bytes,
-        mut count,
-    } = x;
-    for b in piece {
-        if *b == b'\n' {
-            session = take_line(rt, session, &bytes[..count], out)?;
-            count = 0;
-        } else {
-            count = stream_line_code::push_all(&mut bytes, count, &[*b]);
-        }
+    let mut so_far = Ok(());
+    let mut rest = piece;
+    while let Some((part, next)) = stream_line_code::split_line(rest) {
+        let n = stream_line_code::push_all(&mut x.bytes, x.count, part);
+        so_far = take_line(rt, &mut x.session, &x.bytes[..n], out, so_far);
+        x.count = 0;
+        rest = next;
     }
-    Ok(Stream {
-        session,
-        bytes,
-        count,
-    })
+    x.count = stream_line_code::push_all(&mut x.bytes, x.count, rest);
+    so_far
 }
 
 // At the end of the input: a last line without its line feed is answered as an empty one is, with 1.
-fn close(rt: HostRuntime, x: Stream, out: &mut [u8; DESK_WIDTH]) -> Result<(), Stop> {
-    if x.count != 0 {
-        take_line(rt, x.session, b"", out)?;
+fn close(rt: HostRuntime, x: &mut Stream, out: &mut [u8; DESK_WIDTH]) -> Result<(), Stop> {
+    if x.count == 0 {
+        return Ok(());
     }
-    Ok(())
+    take_line(rt, &mut x.session, b"", out, Ok(()))
 }
 
 // The bytes of one read at most.
@@ -102,9 +97,9 @@ fn run(rt: HostRuntime, piece: &mut [u8; PIECE], out: &mut [u8; DESK_WIDTH]) -> 
     for _ in 0..u64::MAX {
         let n = rt.stdin().read(piece).map_err(|_| Stop::NotRead)?;
         if n == 0 {
-            return close(rt, x, out);
+            return close(rt, &mut x, out);
         }
-        x = take_piece(rt, x, &piece[..n], out)?;
+        take_piece(rt, &mut x, &piece[..n], out)?;
     }
     Ok(())
 }

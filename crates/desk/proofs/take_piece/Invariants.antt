@@ -1,7 +1,9 @@
-use lib.ListN.{take}
-use Rattle.desk.specs.Program.{DeskTurn}
+use lib.ListN.{length}
+use Rattle.desk.proofs.Turns.{Taking}
 use Rattle.desk.proofs.take_piece.Given as goal
 
--- what the first bytes of the piece come to
-abbrev pub invariant-loop-b : goal.invariant-loop-b
-invariant-loop-b l = DeskTurn l.fn.x (take l.b-index l.piece) (record { session = l.session; bytes = l.bytes; count = l.count })
+abbrev pub invariant-loop-part : goal.invariant-loop-part
+invariant-loop-part l = Taking l.fn.x l.piece l.x l.rest
+
+abbrev pub decreases-loop-part : goal.decreases-loop-part
+decreases-loop-part l = length l.rest
