@@ -4,7 +4,7 @@
 // writes to standard output.
 #![tactic(auto)]
 
-ghost use Rattle.std.specs.Prelude.{◌≡◌, take, option_map};
+ghost use Rattle.std.specs.Prelude.{◌≡◌, ◌<◌, take, option_map};
 ghost use Rattle.stream.specs.Input.{last_answer, begun, answers_to};
 ghost use Rattle.session.specs.Program.{ReadOnce, TookIn, Stopped, Whole, next_after, stop_after_last};
 
@@ -140,8 +140,10 @@ fn after_last(written: bool) -> Stop
     }
 }
 
-// A whole session. Where a read failed, the line that has begun is not answered: its rest may still come.
+// A whole session. Where a read failed, the line that has begun is not answered: its rest may still come. An empty piece would never show
+// more than the end of the input.
 fn serve(rt: HostRuntime, piece: &mut [u8; PIECE], out: &mut [u8; OUT]) -> Served
+    requires { 0 < PIECE }
     ensures { Whole result.read result.how (option_map (λ n. take n out.new) result.last) × Stopped result.how result.read }
 {
     let mut x = stream_code::start();
